@@ -1,0 +1,2 @@
+// The vocabulary that every layer shares.
+pub mod refusal;
