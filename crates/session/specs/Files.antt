@@ -4,6 +4,7 @@
 --   sessionOf file  the same of a whole file, which may be too long or empty
 --   answered s      what a reader answers that has s before it
 --   behind s        s without its first record
+use mathlib.Core.Path.{_≡_}
 use mathlib.Core.Bool.{cond}
 use mathlib.Core.List.{List, [], _∷_}
 use Prim.Native.Nat.{ℕ, zero, suc, _+_, _-_}
@@ -13,10 +14,11 @@ use Rattle.std.specs.declared.option.Option.{Option}
 use Rattle.std.specs.declared.option.Option.the-variants.{Some, None}
 use Rattle.std.specs.declared.result.Result.{Result}
 use Rattle.std.specs.declared.result.Result.the-variants.{Ok, Err}
+use Rattle.std.specs.shelf.Lists.{All, joined}
 use Rattle.ps2.specs.declared.refusal.Refusal.{Refusal}
 use Rattle.ps2.specs.declared.refusal.Refusal.the-variants.{FileEndsInside, FileTooLong}
 use Rattle.ps2.specs.Refusals.{refusing}
-use Rattle.session.specs.Records.{Item, word, said}
+use Rattle.session.specs.Records.{Item, bytesOf, Valid, word, said}
 
 abbrev pub first : List ℕ → Result Item Refusal
 first bs =
@@ -71,3 +73,7 @@ tail (i ∷ is) = is
 
 abbrev pub behind : Session → Session
 behind s = record { records = tail (s .records); ending = s .ending }
+
+-- every list of valid records can be read back from the file that joins them
+abbrev pub Reads-back : Type 0
+Reads-back = (is : List Item) → All Valid is → session (joined bytesOf is) ≡ record { records = is; ending = complete }

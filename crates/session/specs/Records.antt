@@ -4,16 +4,16 @@
 --   kindOf i         its kind's number
 --   payloadOf i      its fields as bytes, low byte first, signed ones in two's complement
 --   bytesOf i        the record in a file: payload length, kind, payload
+--   Valid i          whether a file can hold it
 --   said k bs        what a payload bs of kind k says; refused if there is no such kind, or not of that length
-use mathlib.Core.Path.{_≡_}
 use mathlib.Core.Bool.{Bool, cond, _&&_}
 use mathlib.Core.List.{List, [], _∷_, _++_}
-use Prim.Native.Nat.{ℕ, _+_, _*_, _/_, _%_}
+use Prim.Native.Nat.{ℕ, _+_, _*_, _/_, _%_, _≤_}
 use lib.Dec.{eqb, leb}
 use lib.IntN.{ℤ}
 use lib.ListN.{length, drop, getD}
 use mir.Syntax.{w8, w16}
-use mir.Val.{toZ, ofZ}
+use mir.Val.{toZ, ofZ, SFits}
 use denote.Ref.{now}
 use Rattle.std.specs.declared.result.Result.{Result}
 use Rattle.std.specs.declared.result.Result.the-variants.{Ok, Err}
@@ -68,6 +68,17 @@ payloadOf (cable l a) = l ∷ a ∷ []
 
 abbrev pub bytesOf : Item → List ℕ
 bytesOf i = pair (length (payloadOf i)) ++ (pair (kindOf i) ++ payloadOf i)
+
+-- a record that a file can hold: numbers of 16 and 8 bits with their sign, a stroke of 1 to 16 bytes
+abbrev pub Valid : Item → Type 0
+Valid (commandWrite b) = Unit {0}
+Valid (dataWrite b) = Unit {0}
+Valid statusRead = Unit {0}
+Valid dataRead = Unit {0}
+Valid turn = Unit {0}
+Valid (movement l b x y w) = SFits w16 x × SFits w16 y × SFits w8 w
+Valid (stroke l bs) = (1 ≤ length bs) × (length bs ≤ 16)
+Valid (cable l a) = Unit {0}
 
 -- the number that two bytes from place i on make
 abbrev pub word : List ℕ → ℕ → ℕ

@@ -2,7 +2,7 @@
 ghost use mathlib.Core.Path.{_≡_};
 ghost use Prim.Native.Nat.{_-_};
 ghost use lib.ListN.{length};
-ghost use Rattle.session.specs.Files.{barred};
+ghost use Rattle.session.specs.Files.{barred, Reads-back};
 ghost use Rattle.session.specs.Readers.{fileOf, leftOf, told, Opened, Step, Keeps};
 use crate::decode::first;
 use crate::record_kinds::Record;
@@ -19,7 +19,8 @@ pub struct Reader<'a> {
 impl<'a> Reader<'a> {
     // A reader at the start of a file.
     pub fn open(file: &'a [u8]) -> Result<Reader<'a>, Refusal>
-        ensures { λ r. ⌜ Opened (barred (now (file .entry))) (now (file .entry)) r ⌝ }
+        ensures value { λ r. ⌜ Opened (barred (now (file .entry))) (now (file .entry)) r ⌝ }
+        ensures reads_back { λ _. ⌜ Reads-back ⌝ }
     {
         if file.len() > LONGEST_FILE {
             return Err(Refusal::FileTooLong);

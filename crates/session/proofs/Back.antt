@@ -1,0 +1,57 @@
+-- What is written as bytes reads as the same records.
+use mathlib.Core.Path.{_≡_, refl, sym, ap, _∙_}
+use mathlib.Core.Bool.{true, false}
+use mathlib.Core.List.{List, [], _∷_, _++_}
+use Prim.Native.Nat.{ℕ, _+_, _-_, _*_, _/_, _%_, _≤_, _<_}
+use native.Mathlib.Omega.{arith}
+use lib.Dec.{leb, ltb}
+use lib.IntN.{ℤ}
+use lib.ListN.{length, take, drop, length-append}
+use mir.Syntax.{Width, w8, w16}
+use mir.Val.{toZ, ofZ, SFits}
+use Rattle.std.specs.declared.result.Result.{Result}
+use Rattle.std.specs.declared.result.Result.the-variants.{Ok, Err}
+use Rattle.std.specs.shelf.Lists.{All, joined}
+use Rattle.std.proofs.shelf.Lists.{take-at, drop-at, drop-drop}
+use Rattle.std.proofs.shelf.Signed.{toZ-ofZ}
+use Rattle.std.proofs.shelf.Tests.{le-leb}
+use Rattle.session.specs.Records.{Item, commandWrite, dataWrite, statusRead, dataRead, turn, movement, stroke, cable, kindOf, payloadOf, bytesOf, Valid, word, said}
+use Rattle.session.specs.Files.{first, onward, session, Reads-back}
+use Rattle.session.proofs.Fields.{first-is}
+use Rattle.session.proofs.Steps.{session-none, session-more}
+
+halves : (n : ℕ) → n % 256 + n / 256 * 256 ≡ n
+halves n = omega arith
+
+said-valid : (i : Item) → Valid i → said (kindOf i) (payloadOf i) ≡ Ok i
+said-valid (commandWrite b) v = refl
+said-valid (dataWrite b) v = refl
+said-valid statusRead v = refl
+said-valid dataRead v = refl
+said-valid turn v = refl
+said-valid (movement l b x y w) v =
+    let sx = ap (toZ w16) (halves (ofZ w16 x)) ∙ toZ-ofZ w16 x (v .0) in
+    let sy = ap (toZ w16) (halves (ofZ w16 y)) ∙ toZ-ofZ w16 y (v .1) in
+    λ k. Ok (movement l b (sx k) (sy k) (toZ-ofZ w8 w (v .2) k))
+said-valid (stroke l bs) v =
+    let low : leb 2 (length (l ∷ bs)) ≡ true = le-leb 2 _ (omega arith) in
+    let high : leb (length (l ∷ bs)) 17 ≡ true = le-leb _ 17 (omega arith) in
+    simp (low, high)
+said-valid (cable l a) v = refl
+
+module _ (i : Item) (v : Valid i) (rest : List ℕ) where
+  size : word (bytesOf i ++ rest) 0 ≡ length (payloadOf i)
+  size = halves (length (payloadOf i))
+
+  first-valid : first (bytesOf i ++ rest) ≡ Ok i
+  first-valid =
+      first-is (bytesOf i ++ rest) (omega arith) (omega (arith, size, length-append (payloadOf i) rest)) ∙ simp (size, halves (kindOf i), take-at (payloadOf i) rest (length (payloadOf i)) refl) (said-valid i v)
+
+  rest-valid : drop (4 + word (bytesOf i ++ rest) 0) (bytesOf i ++ rest) ≡ rest
+  rest-valid = sym (drop-drop (word (bytesOf i ++ rest) 0) 4 (bytesOf i ++ rest)) ∙ drop-at (payloadOf i) rest _ (sym size)
+
+pub reads-back : Reads-back
+reads-back [] v = session-none
+reads-back (i ∷ is) v =
+    let rest = joined bytesOf is in
+    session-more (bytesOf i ++ rest) (omega arith) ∙ (λ k. onward (first-valid i (v .0) rest k) (session (rest-valid i (v .0) rest k))) ∙ ap (onward (Ok i)) (reads-back is (v .1))
