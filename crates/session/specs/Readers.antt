@@ -4,7 +4,7 @@
 --   Handed is r   the records is, each with its header, joined in order, are the bytes it has read: then come those left
 use mathlib.Core.Path.{_≡_}
 use mathlib.Core.List.{List, [], _∷_, _++_}
-use Prim.Native.Nat.{ℕ, _+_}
+use Prim.Native.Nat.{ℕ, _+_, _≤_}
 use lib.ListN.{length, drop}
 use denote.Ref.{RefT, now}
 use Rattle.std.specs.declared.option.Option.{Option}
@@ -43,6 +43,7 @@ handed (Err e) = []
 pub record AtStart (file : List ℕ) (r : Reader) : Type 0 where
   pub whole : fileOf r ≡ file
   pub start : leftOf r ≡ file
+  pub short : length file ≤ 65536
 
 -- what opening a file gives: such a reader, unless the file is barred
 abbrev pub Opened : Option Refusal → List ℕ → Result Reader Refusal → Type 0
