@@ -1,9 +1,13 @@
 // Why there is no text: a refusal, or want of memory.
 ghost use mathlib.Core.Path.{_≡_};
+ghost use Rattle.std.specs.declared.option.Option.the-variants.{Some};
+ghost use Rattle.report.specs.Failures.{failureWords};
 ghost use Rattle.report.specs.declared.failure.Failure.the-variants.{Refused, OutOfMemory};
 use ps2::refusal::Refusal;
 use ps2::refusal::RefusalDebug;
+use ps2::refusal::RefusalDisplay;
 use std::alloc::AllocError;
+use std::error::Error;
 use std::fmt;
 
 #[derive(Clone, Copy, Debug)]
@@ -11,6 +15,22 @@ pub enum Failure {
     Refused(Refusal),
     OutOfMemory,
 }
+
+pub impl fmt::Display for Failure as FailureDisplay {
+    ghost shown = { λ f. Some (failureWords f) };
+
+    fn fmt<W: fmt::Write>(&self, f: &mut fmt::Formatter<W>) -> fmt::Result {
+        match self {
+            Failure::Refused(refusal) => {
+                let number = refusal.number();
+                write!(f, "refused with {number}: {refusal}")
+            }
+            Failure::OutOfMemory => write!(f, "out of memory"),
+        }
+    }
+}
+
+pub impl Error for Failure as FailureError {}
 
 pub impl From<Refusal> for Failure as FromRefusal {
     ghost converts = { λ x r. r ≡ Refused x };

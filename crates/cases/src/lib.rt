@@ -1,0 +1,5 @@
+// Worked cases, run as tests. Expected values come from the rules, never from the programs.
+#[cfg(test)]
+mod lanes_cases;
+#[cfg(test)]
+mod session_cases;
