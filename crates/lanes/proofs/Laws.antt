@@ -8,7 +8,7 @@ use lib.Dec.{eqb}
 use lib.ListN.{length, take, drop, getD, length-map, length-append, length-take, take-append-drop}
 use mir.Val.{boolByte}
 use Rattle.std.specs.shelf.Lists.{kept-by, countBy}
-use Rattle.std.proofs.shelf.Lists.{map-append}
+use Rattle.std.proofs.shelf.Lists.{map-append, take-all}
 use Rattle.std.proofs.shelf.Elements.{kept-by-append, kept-by-more}
 use Rattle.std.proofs.shelf.Sums.{length-kept-by, countBy-le-length, sumBy-cons, sumBy-more}
 use Rattle.std.proofs.shelf.Ways.{tells}
@@ -47,12 +47,21 @@ lane-front p rs i =
     let whole = ap (λ z. length (lane p z)) (take-append-drop i rs) in
     omega (arith, whole, ap length (joins p (take i rs) (drop i rs)), length-append (lane p (take i rs)) (lane p (drop i rs)))
 
--- one reading more in a count
-pub counts-more : (p : ℕ → Bool) (rs : List ℕ) (i : ℕ) → i < length rs → countBy p (take (i + 1) rs) ≡ countBy p (take i rs) + boolByte (p (getD rs i 0))
-counts-more p rs i h = omega (arith, sumBy-more (λ r. cond (p r) 1 0) rs i 0 h, bits (p (getD rs i 0)))
+-- total is how many of the first i readings pass p
+pub record Counted (p : ℕ → Bool) (rs : List ℕ) (total i : ℕ) : Type 0 where
+  pub counts : total ≡ countBy p (take i rs)
 
-pub counts-few : (p : ℕ → Bool) (rs : List ℕ) (i : ℕ) → countBy p (take i rs) ≤ i
-counts-few p rs i = omega (arith, countBy-le-length p (take i rs), length-take i rs)
+module _ {p : ℕ → Bool} {rs : List ℕ} {total i : ℕ} (so : Counted p rs total i) where
+  pub counted-more : (t : Bool) → i < length rs → t ≡ p (getD rs i 0) → Counted p rs (total + boolByte t) (i + 1)
+  counted-more t h e =
+      let more = sumBy-more (λ r. cond (p r) 1 0) rs i 0 h in
+      record { counts = (λ k. so .counts k + (ap boolByte e ∙ bits (p (getD rs i 0))) k) ∙ sym more }
+
+  pub counted-fits : (t : Bool) → i < length rs → t ≡ p (getD rs i 0) → total + boolByte t ≤ length rs
+  counted-fits t h e = omega (arith, counted-more t h e .counts, countBy-le-length p (take (i + 1) rs), length-take (i + 1) rs)
+
+  pub counted-all : length rs ≤ i → total ≡ countBy p rs
+  counted-all h = so .counts ∙ ap (countBy p) (take-all i rs h)
 
 -- the size by the first reading and the rest
 pub size-cons : (p r : ℕ) (rs : List ℕ) → length (lane p (r ∷ rs)) ≡ length (lane p rs) + boolByte (isOf p r)

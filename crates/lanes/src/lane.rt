@@ -5,7 +5,7 @@ ghost use mathlib.Core.List.{_++_};
 ghost use Prim.Native.Nat.{_≤_};
 ghost use lib.ListN.{length, drop};
 ghost use Rattle.lanes.specs.Readings.{good, isOf};
-ghost use Rattle.lanes.specs.Lanes.{lane, sizeAnswer, fillAnswer, filled, untaggedAnswer, Joins, Adds-up};
+ghost use Rattle.lanes.specs.Lanes.{lane, untagged, faults, sizeAnswer, fillAnswer, filled, untaggedAnswer, Joins, Adds-up};
 use crate::reading::data_of;
 use crate::reading::is_fault;
 use crate::reading::port_of;
@@ -69,7 +69,6 @@ fn copy_lane(readings: &[u16], port: u8, out: &mut [u8])
 pub fn fill_lane(readings: &[u16], port: u8, out: &mut [u8]) -> Result<usize, Refusal>
     ensures value { λ r. ⌜ r ≡ fillAnswer (now (readings .entry)) port (length (now (out .entry))) ⌝ }
     ensures after { λ r. ⌜ now (out .exit) ≡ filled r (lane port (now (readings .entry))) (now (out .entry)) ⌝ }
-    ensures joins { λ _. ⌜ Joins ⌝ }
 {
     let size = lane_size(readings, port)?;
     if out.len() < size {
@@ -85,19 +84,43 @@ fn is_untagged(reading: u16) -> bool
     port_of(reading).is_none()
 }
 
-// The readings that no lane has.
-pub fn count_untagged(readings: &[u16]) -> Result<Untagged, Refusal>
-    ensures value { λ r. ⌜ r ≡ untaggedAnswer (now (readings .entry)) ⌝ }
-    ensures adds_up { λ _. ⌜ Adds-up (now (readings .entry)) ⌝ }
+fn count_none(readings: &[u16]) -> usize
+    ensures { λ r. ⌜ r ≡ untagged (now (readings .entry)) ⌝ }
+{
+    let mut total = 0;
+    for reading in readings {
+        total += is_untagged(*reading) as usize;
+    }
+    total
+}
+
+fn count_faults(readings: &[u16]) -> usize
+    ensures { λ r. ⌜ r ≡ faults (now (readings .entry)) ⌝ }
+{
+    let mut total = 0;
+    for reading in readings {
+        total += is_fault(*reading) as usize;
+    }
+    total
+}
+
+fn tally(readings: &[u16]) -> Result<Untagged, Refusal>
+    ensures { λ r. ⌜ r ≡ untaggedAnswer (now (readings .entry)) ⌝ }
 {
     if readings.len() > MOST_READINGS {
         return Err(Refusal::TooManyReadings);
     }
-    let mut total = 0;
-    let mut faults = 0;
-    for reading in readings {
-        total += is_untagged(*reading) as usize;
-        faults += is_fault(*reading) as usize;
-    }
-    Ok(Untagged { total, faults })
+    Ok(Untagged {
+        total: count_none(readings),
+        faults: count_faults(readings),
+    })
+}
+
+// The readings that no lane has. Every reading is one of these or in one lane.
+pub fn count_untagged(readings: &[u16]) -> Result<Untagged, Refusal>
+    ensures value { λ r. ⌜ r ≡ untaggedAnswer (now (readings .entry)) ⌝ }
+    ensures adds_up { λ _. ⌜ Adds-up (now (readings .entry)) ⌝ }
+    ensures joins { λ _. ⌜ Joins ⌝ }
+{
+    tally(readings)
 }

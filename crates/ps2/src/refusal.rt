@@ -29,7 +29,7 @@ impl Refusal {
         self as u8
     }
 
-    pub fn meaning(self) -> &'static str
+    fn meaning(self) -> &'static str
         ensures { λ r. ⌜ now r ≡ meaningOf self ⌝ }
     {
         match self {

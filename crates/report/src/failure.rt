@@ -21,9 +21,9 @@ pub impl fmt::Display for Failure as FailureDisplay {
 
     fn fmt<W: fmt::Write>(&self, f: &mut fmt::Formatter<W>) -> fmt::Result {
         match self {
-            Failure::Refused(refusal) => {
-                let number = refusal.number();
-                write!(f, "refused with {number}: {refusal}")
+            Failure::Refused(why) => {
+                let number = why.number();
+                write!(f, "refused with {number}: {why}")
             }
             Failure::OutOfMemory => write!(f, "out of memory"),
         }
@@ -53,6 +53,6 @@ pub impl From<fmt::Error> for Failure as FromFmtError {
     ghost converts = { λ _ r. r ≡ OutOfMemory };
 
     fn from(_: fmt::Error) -> Failure {
-        Failure::OutOfMemory
+        FromAllocError::from(AllocError)
     }
 }

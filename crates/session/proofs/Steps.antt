@@ -14,7 +14,7 @@ use Rattle.ps2.specs.declared.refusal.Refusal.{Refusal}
 use Rattle.session.specs.declared.reader.Reader.{Reader}
 use Rattle.session.specs.Records.{Item, bytesOf, word}
 use Rattle.session.specs.Files.{first, Session, onward, within, session, complete, refused, answered, behind}
-use Rattle.session.specs.Readers.{fileOf, leftOf, Handed, Step, Keeps}
+use Rattle.session.specs.Readers.{fileOf, leftOf, Handed, Advanced, Step, Keeps}
 
 within-same : (n m : ℕ) (bs : List ℕ) → length bs ≤ n → length bs ≤ m → within n bs ≡ within m bs
 unfolding within
@@ -43,7 +43,7 @@ pub record Read (r : Reader) (answer : Result (Option Item) Refusal) (s : Reader
   pub step : Step r answer s
   pub keeps : Keeps r answer s
 
-pub read-end : (r : Reader) → length (leftOf r) ≡ 0 → Read r (Ok None) r
+read-end : (r : Reader) → length (leftOf r) ≡ 0 → Read r (Ok None) r
 read-end r h =
     let none = nil-from-length (leftOf r) h in
     let q = ap session none ∙ session-none in
@@ -55,7 +55,7 @@ read-end r h =
       };
     }
 
-pub read-refused : (r : Reader) (e : Refusal) → 0 < length (leftOf r) → Err e ≡ first (leftOf r) → Read r (Err e) r
+read-refused : (r : Reader) (e : Refusal) → 0 < length (leftOf r) → Err e ≡ first (leftOf r) → Read r (Err e) r
 read-refused r e some h =
     let q : session (leftOf r) ≡ record { records = []; ending = refused e } = session-more (leftOf r) some ∙ ap (λ f. onward f (session (drop (4 + word (leftOf r) 0) (leftOf r)))) (sym h) in
     record {
@@ -66,7 +66,7 @@ read-refused r e some h =
       };
     }
 
-pub read-found : (r s : Reader) (i : Item) → 0 < length (leftOf r) → Ok i ≡ first (leftOf r) → leftOf s ≡ drop (4 + word (leftOf r) 0) (leftOf r) → bytesOf i ++ leftOf s ≡ leftOf r → fileOf s ≡ fileOf r → Read r (Ok (Some i)) s
+read-found : (r s : Reader) (i : Item) → 0 < length (leftOf r) → Ok i ≡ first (leftOf r) → leftOf s ≡ drop (4 + word (leftOf r) 0) (leftOf r) → bytesOf i ++ leftOf s ≡ leftOf r → fileOf s ≡ fileOf r → Read r (Ok (Some i)) s
 read-found r s i some h rest all file =
     let q : session (leftOf r) ≡ onward (Ok i) (session (leftOf s)) =
       session-more (leftOf r) some ∙ (λ k. onward (sym h k) (session (sym rest k))) in
@@ -82,3 +82,8 @@ read-found r s i some h rest all file =
         ends = λ is _ never. let z : _≡_ {A = ℕ} 0 1 = cc in absurd (omega arith);
       };
     }
+
+pub reading : (r : Reader) (answer : Result (Option Item) Refusal) (s : Reader) → Advanced r answer s → Read r answer s
+reading r (Ok None) s a = subst (Read r (Ok None)) (sym (a .1)) (read-end r (a .0))
+reading r (Ok (Some i)) s a = read-found r s i (a .0) (a .1) (a .2) (a .3) (a .4)
+reading r (Err e) s a = subst (Read r (Err e)) (sym (a .2)) (read-refused r e (a .0) (a .1))

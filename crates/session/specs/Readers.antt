@@ -4,7 +4,7 @@
 --   Handed is r   the records is, each with its header, joined in order, are the bytes it has read: then come those left
 use mathlib.Core.Path.{_≡_}
 use mathlib.Core.List.{List, [], _∷_, _++_}
-use Prim.Native.Nat.{ℕ, _+_, _≤_}
+use Prim.Native.Nat.{ℕ, _+_, _≤_, _<_}
 use lib.ListN.{length, drop}
 use denote.Ref.{RefT, now}
 use Rattle.std.specs.declared.option.Option.{Option}
@@ -56,6 +56,12 @@ Opened (Some e) file (Err f) = f ≡ e
 abbrev pub Found : List ℕ → Result (Record × RefT (List ℕ)) Refusal → Type 0
 Found bs (Ok r) = (Ok (itemOf (r .0)) ≡ first bs) × (now (r .1) ≡ drop (4 + word bs 0) bs) × (bytesOf (itemOf (r .0)) ++ now (r .1) ≡ bs)
 Found bs (Err e) = Err e ≡ first bs
+
+-- one step, by its bytes alone: none left, or a front that is a record, or one that is refused
+abbrev pub Advanced : Reader → Result (Option Item) Refusal → Reader → Type 0
+Advanced r (Ok None) s = (length (leftOf r) ≡ 0) × (s ≡ r)
+Advanced r (Ok (Some i)) s = (0 < length (leftOf r)) × (Ok i ≡ first (leftOf r)) × (leftOf s ≡ drop (4 + word (leftOf r) 0) (leftOf r)) × (bytesOf i ++ leftOf s ≡ leftOf r) × (fileOf s ≡ fileOf r)
+Advanced r (Err e) s = (0 < length (leftOf r)) × (Err e ≡ first (leftOf r)) × (s ≡ r)
 
 -- one answer of a reader: the first of the records before it, and it stands behind that record
 pub record Step (before : Reader) (answer : Result (Option Item) Refusal) (after : Reader) : Type 0 where

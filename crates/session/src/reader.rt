@@ -3,7 +3,7 @@ ghost use mathlib.Core.Path.{_≡_};
 ghost use Prim.Native.Nat.{_-_};
 ghost use lib.ListN.{length};
 ghost use Rattle.session.specs.Files.{barred, Reads-back};
-ghost use Rattle.session.specs.Readers.{fileOf, leftOf, told, Opened, Step, Keeps};
+ghost use Rattle.session.specs.Readers.{fileOf, leftOf, told, Opened, Advanced, Step, Keeps};
 use crate::decode::first;
 use crate::record_kinds::Record;
 use ps2::refusal::Refusal;
@@ -19,8 +19,7 @@ pub struct Reader<'a> {
 impl<'a> Reader<'a> {
     // A reader at the start of a file.
     pub fn open(file: &'a [u8]) -> Result<Reader<'a>, Refusal>
-        ensures value { λ r. ⌜ Opened (barred (now (file .entry))) (now (file .entry)) r ⌝ }
-        ensures reads_back { λ _. ⌜ Reads-back ⌝ }
+        ensures { λ r. ⌜ Opened (barred (now (file .entry))) (now (file .entry)) r ⌝ }
     {
         if file.len() > LONGEST_FILE {
             return Err(Refusal::FileTooLong);
@@ -38,10 +37,8 @@ impl<'a> Reader<'a> {
         self.file.len().saturating_sub(self.left.len())
     }
 
-    // The next record, if any is left.
-    pub fn next_record(&mut self) -> Result<Option<Record<'a>>, Refusal>
-        ensures step { λ r. ⌜ Step (now (self .entry)) (told r) (now (self .exit)) ⌝ }
-        ensures keeps { λ r. ⌜ Keeps (now (self .entry)) (told r) (now (self .exit)) ⌝ }
+    fn advance(&mut self) -> Result<Option<Record<'a>>, Refusal>
+        ensures { λ r. ⌜ Advanced (now (self .entry)) (told r) (now (self .exit)) ⌝ }
     {
         if self.left.is_empty() {
             return Ok(None);
@@ -49,5 +46,14 @@ impl<'a> Reader<'a> {
         let (next, rest) = first(self.left)?;
         self.left = rest;
         Ok(Some(next))
+    }
+
+    // The next record, if any is left.
+    pub fn next_record(&mut self) -> Result<Option<Record<'a>>, Refusal>
+        ensures step { λ r. ⌜ Step (now (self .entry)) (told r) (now (self .exit)) ⌝ }
+        ensures keeps { λ r. ⌜ Keeps (now (self .entry)) (told r) (now (self .exit)) ⌝ }
+        ensures reads_back { λ _. ⌜ Reads-back ⌝ }
+    {
+        self.advance()
     }
 }

@@ -1,5 +1,6 @@
 // Bytes as hexadecimal text.
 ghost use mathlib.Core.Path.{_≡_};
+ghost use mathlib.Core.List.{_∷_};
 ghost use Prim.Native.Nat.{_<_};
 ghost use denote.Ref.{now};
 ghost use Rattle.std.specs.declared.option.Option.the-variants.{Some};
@@ -9,6 +10,10 @@ use std::fmt;
 // A byte as two lowercase digits.
 #[derive(Clone, Copy)]
 pub struct Hex(pub u8);
+
+// The same behind a space.
+#[derive(Clone, Copy)]
+struct Spaced(u8);
 
 // Each byte as a space and two lowercase digits.
 #[derive(Clone, Copy)]
@@ -36,13 +41,21 @@ pub impl fmt::Display for Hex as HexDisplay {
     }
 }
 
+impl fmt::Display for Spaced as SpacedDisplay {
+    ghost shown = { λ s. Some (32 ∷ hex (s .0)) };
+
+    fn fmt<W: fmt::Write>(&self, f: &mut fmt::Formatter<W>) -> fmt::Result {
+        let pair = Hex(self.0);
+        write!(f, " {pair}")
+    }
+}
+
 pub impl<'a> fmt::Display for HexBytes<'a> as HexBytesDisplay {
     ghost shown = { λ h. Some (spaced (now (h .0))) };
 
     fn fmt<W: fmt::Write>(&self, f: &mut fmt::Formatter<W>) -> fmt::Result {
         for byte in self.0 {
-            let pair = Hex(*byte);
-            write!(f, " {pair}")?;
+            f.write(Spaced(*byte))?;
         }
         Ok(())
     }
