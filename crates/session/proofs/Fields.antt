@@ -13,12 +13,14 @@ use mir.Syntax.{w8, w16}
 use mir.Val.{toZ, ofZ}
 use Rattle.std.specs.declared.result.Result.{Result}
 use Rattle.std.specs.declared.result.Result.the-variants.{Ok, Err}
-use Rattle.std.proofs.shelf.Lists.{drop-more, drop-all, take-all, length-take-le, drop-drop, getD-take, getD-drop, getD-past, take-rest}
+use Rattle.std.proofs.shelf.Lists.{drop-more, drop-all, take-all, length-take-le, drop-drop, getD-take, getD-drop, getD-past}
 use Rattle.std.proofs.shelf.Signed.{ofZ-toZ}
-use Rattle.std.proofs.shelf.Tests.{cond-both, and-parts, eqb-true, leb-true, le-ltb, cases-lt}
+use Rattle.std.proofs.shelf.Tests.{cond-both, and-parts, eqb-true, leb-true, ltb-false, cases-lt}
 use Rattle.ps2.specs.declared.refusal.Refusal.{Refusal}
+use Rattle.ps2.specs.declared.refusal.Refusal.the-variants.{FileEndsInside}
+use Rattle.ps2.specs.Refusals.{refusing}
 use Rattle.session.specs.Records.{Item, commandWrite, dataWrite, statusRead, dataRead, turn, movement, stroke, cable, kindOf, payloadOf, bytesOf, pair, word, said}
-use Rattle.session.specs.Files.{first}
+use Rattle.session.specs.Files.{headed}
 
 -- the n elements from place i on, one by one
 abbrev listed : ℕ → ℕ → List ℕ → List ℕ
@@ -47,7 +49,7 @@ spelled k bs small =
     (choose _ dataRead _ (λ e. (kind 4 0 e, whole 0 bs (size 4 0 e)))
     (choose _ turn _ (λ e. (kind 5 0 e, whole 0 bs (size 5 0 e)))
     (choose _ (movement (getD bs 0 0) (getD bs 1 0) (toZ w16 (word bs 2)) (toZ w16 (word bs 4)) (toZ w8 (getD bs 6 0))) _ (λ e. (kind 6 7 e, moved (size 6 7 e)))
-    (choose _ (stroke (getD bs 0 0) (drop 1 bs)) _ (λ e. let p = and-parts (eqb k 7) _ e in (sym (eqb-true k 7 (p .0)), stroked (leb-true 2 _ (and-parts (leb 2 (length bs)) _ (p .1) .0))))
+    (choose _ (stroke (getD bs 0 0) (drop 1 bs)) _ (λ e. let p = and-parts (eqb k 7) _ e in (sym (eqb-true k 7 (p .0)), stroked (leb-true 1 _ (and-parts (leb 1 (length (drop 1 bs))) _ (p .1) .0))))
     (choose _ (cable (getD bs 0 0) (getD bs 1 0)) _ (λ e. (kind 8 2 e, whole 2 bs (size 8 2 e))) tt)))))))
   where
     choose : (t : Bool) (i : Item) (r : Result Item Refusal) → (t ≡ true → (kindOf i ≡ k) × (payloadOf i ≡ bs)) → Spelled r k bs → Spelled (cond t (Ok i) r) k bs
@@ -68,35 +70,40 @@ spelled k bs small =
     moved : length bs ≡ 7 → getD bs 0 0 ∷ getD bs 1 0 ∷ (pair (ofZ w16 (toZ w16 (word bs 2))) ++ (pair (ofZ w16 (toZ w16 (word bs 4))) ++ (ofZ w8 (toZ w8 (getD bs 6 0)) ∷ []))) ≡ bs
     moved h = simp (low 2, high 2, low 4, high 4, ofZ-toZ w8 (getD bs 6 0) (small 6)) (whole 7 bs h)
 
-    stroked : 2 ≤ length bs → getD bs 0 0 ∷ drop 1 bs ≡ bs
-    stroked h = sym (drop-more bs 0 0 (omega arith))
+    stroked : 1 ≤ length (drop 1 bs) → getD bs 0 0 ∷ drop 1 bs ≡ bs
+    stroked h = sym (drop-more bs 0 0 (omega (arith, length-drop 1 bs)))
 
--- the front of some bytes, where they hold a whole record
-module _ (bs : List ℕ) (long : 4 ≤ length bs) (fits : word bs 0 ≤ length bs - 4) where
-  pub first-is : first bs ≡ said (word bs 2) (take (word bs 0) (drop 4 bs))
-  first-is =
-      let a : ltb (length bs) 4 ≡ false = le-ltb (length bs) 4 long in
-      let b : ltb (length bs - 4) (word bs 0) ≡ false = le-ltb (length bs - 4) (word bs 0) fits in
-      simp (a, b)
+-- a header whose payload is there whole
+pub record Whole (bs : List ℕ) (n k : ℕ) : Type 0 where
+  pub long : 4 ≤ length bs
+  pub fits : n ≤ length bs - 4
+  pub size : n ≡ word bs 0
+  pub kind : k ≡ word bs 2
 
-  -- its bytes and those behind it are all
-  pub bytes-first : ((i : ℕ) → getD bs i 0 < 256) → (i : Item) → said (word bs 2) (take (word bs 0) (drop 4 bs)) ≡ Ok i → bytesOf i ++ drop (4 + word bs 0) bs ≡ bs
-  bytes-first small i e =
-      let n = word bs 0 in
-      let body = take n (drop 4 bs) in
-      let size : length body ≡ n = length-take-le n (drop 4 bs) (simp length-drop (omega arith)) in
-      let s : Spelled (Ok i) (word bs 2) body = subst (λ r. Spelled r (word bs 2) body) e (spelled (word bs 2) body (λ k. small-part k (cases-lt k n) size)) in
-      let l0 : n % 256 ≡ getD bs 0 0 = omega (arith, small 0) in
-      let l1 : n / 256 ≡ getD bs 1 0 = omega (arith, small 0) in
-      let k0 : word bs 2 % 256 ≡ getD bs 2 0 = omega (arith, small 2) in
-      let k1 : word bs 2 / 256 ≡ getD bs 3 0 = omega (arith, small 2) in
-      let back : body ++ drop (4 + n) bs ≡ drop 4 bs = ap (λ l. body ++ l) (sym (drop-drop n 4 bs)) ∙ take-append-drop n (drop 4 bs) in
-      simp (s .0, s .1) (simp size (simp (l0, l1, k0, k1, back) (listed-on 0 4 bs long)))
-    where
-      small-part : (k : ℕ) → (k < word bs 0) ⊎ (word bs 0 ≤ k) → length (take (word bs 0) (drop 4 bs)) ≡ word bs 0 → getD (take (word bs 0) (drop 4 bs)) k 0 < 256
-      small-part k (inl h) size = rw (getD-take (word bs 0) (drop 4 bs) k 0 h, getD-drop 4 bs k 0) (small (4 + k))
-      small-part k (inr h) size = rw (getD-past (take (word bs 0) (drop 4 bs)) k 0 (omega arith)) (omega arith)
+pub headed-whole : (bs : List ℕ) (n k : ℕ) → _≡_ {A = Result (ℕ × ℕ) Refusal} (Ok (n, k)) (headed bs) → Whole bs n k
+headed-whole bs n k = go (ltb (length bs) 4) (ltb (length bs - 4) (word bs 0)) refl refl
+  where
+    go : (s t : Bool) → ltb (length bs) 4 ≡ s → ltb (length bs - 4) (word bs 0) ≡ t → _≡_ {A = Result (ℕ × ℕ) Refusal} (Ok (n, k)) (refusing s FileEndsInside (refusing t FileEndsInside (Ok (word bs 0, word bs 2)))) → Whole bs n k
+    go true t a b e = let z : _≡_ {A = ℕ} 0 1 = cc in absurd (omega arith)
+    go false true a b e = let z : _≡_ {A = ℕ} 0 1 = cc in absurd (omega arith)
+    go false false a b e =
+        let p : _≡_ {A = ℕ × ℕ} (n, k) (word bs 0, word bs 2) = cc in
+        let size = ap (λ (p : ℕ × ℕ). p .0) p in
+        record { long = ltb-false _ _ a; fits = omega (arith, size, ltb-false _ _ b); size = size; kind = ap (λ (p : ℕ × ℕ). p .1) p }
 
--- the bytes behind it, as the code cuts them out
-pub rest-is : (bs : List ℕ) (n m : ℕ) → n ≡ m → take (length (take (length bs - 4) (drop 4 bs)) - n) (drop n (take (length bs - 4) (drop 4 bs))) ≡ drop (4 + m) bs
-rest-is bs n m e = simp (e, take-rest) (drop-drop m 4 bs)
+-- the bytes of the record behind such a header, and those behind the record, are all
+pub bytes-first : (bs : List ℕ) (n k : ℕ) → Whole bs n k → ((i : ℕ) → getD bs i 0 < 256) → (i : Item) → said k (take n (drop 4 bs)) ≡ Ok i → bytesOf i ++ drop (4 + n) bs ≡ bs
+bytes-first bs n k w small i e =
+    let body = take n (drop 4 bs) in
+    let size : length body ≡ n = length-take-le n (drop 4 bs) (simp length-drop (w .fits)) in
+    let s : Spelled (Ok i) k body = subst (λ r. Spelled r k body) e (spelled k body (λ j. small-part j (cases-lt j n) size)) in
+    let l0 : n % 256 ≡ getD bs 0 0 = omega (arith, small 0, w .size) in
+    let l1 : n / 256 ≡ getD bs 1 0 = omega (arith, small 0, w .size) in
+    let k0 : k % 256 ≡ getD bs 2 0 = omega (arith, small 2, w .kind) in
+    let k1 : k / 256 ≡ getD bs 3 0 = omega (arith, small 2, w .kind) in
+    let back : body ++ drop (4 + n) bs ≡ drop 4 bs = ap (λ l. body ++ l) (sym (drop-drop n 4 bs)) ∙ take-append-drop n (drop 4 bs) in
+    simp (s .0, s .1) (simp size (simp (l0, l1, k0, k1, back) (listed-on 0 4 bs (w .long))))
+  where
+    small-part : (j : ℕ) → (j < n) ⊎ (n ≤ j) → length (take n (drop 4 bs)) ≡ n → getD (take n (drop 4 bs)) j 0 < 256
+    small-part j (inl h) size = rw (getD-take n (drop 4 bs) j 0 h, getD-drop 4 bs j 0) (small (4 + j))
+    small-part j (inr h) size = rw (getD-past (take n (drop 4 bs)) j 0 (omega arith)) (omega arith)

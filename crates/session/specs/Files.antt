@@ -18,13 +18,27 @@ use Rattle.std.specs.shelf.Lists.{All, joined}
 use Rattle.ps2.specs.declared.refusal.Refusal.{Refusal}
 use Rattle.ps2.specs.declared.refusal.Refusal.the-variants.{FileEndsInside, FileTooLong}
 use Rattle.ps2.specs.Refusals.{refusing}
+use Rattle.session.specs.declared.decode.Header.{Header}
 use Rattle.session.specs.Records.{Item, bytesOf, Valid, word, said}
 
-abbrev pub first : List ℕ → Result Item Refusal
-first bs =
+-- payload length and kind, where header and payload are there whole
+abbrev pub headed : List ℕ → Result (ℕ × ℕ) Refusal
+headed bs =
   refusing (ltb (length bs) 4) FileEndsInside
   (refusing (ltb (length bs - 4) (word bs 0)) FileEndsInside
-  (said (word bs 2) (take (word bs 0) (drop 4 bs))))
+  (Ok (word bs 0, word bs 2)))
+
+abbrev pub plainHeader : Result Header Refusal → Result (ℕ × ℕ) Refusal
+plainHeader (Ok h) = Ok (h .length, h .kind)
+plainHeader (Err e) = Err e
+
+-- what the payload behind a header says
+abbrev pub saidBy : Result (ℕ × ℕ) Refusal → List ℕ → Result Item Refusal
+saidBy (Ok h) bs = said (h .1) (take (h .0) (drop 4 bs))
+saidBy (Err e) bs = Err e
+
+abbrev pub first : List ℕ → Result Item Refusal
+first bs = saidBy (headed bs) bs
 
 pub data Ending : Type 0 where
   complete : Ending

@@ -88,6 +88,10 @@ word bs i = getD bs i 0 + getD bs (i + 1) 0 * 256
 abbrev is : ℕ → ℕ → ℕ → List ℕ → Bool
 is k n kind bs = eqb kind k && eqb (length bs) n
 
+-- how many bytes a stroke may have
+abbrev pub strokeLength : ℕ → Bool
+strokeLength n = leb 1 n && leb n 16
+
 abbrev pub said : ℕ → List ℕ → Result Item Refusal
 said k bs =
   cond (is 1 1 k bs) (Ok (commandWrite (getD bs 0 0)))
@@ -96,7 +100,7 @@ said k bs =
   (cond (is 4 0 k bs) (Ok dataRead)
   (cond (is 5 0 k bs) (Ok turn)
   (cond (is 6 7 k bs) (Ok (movement (getD bs 0 0) (getD bs 1 0) (toZ w16 (word bs 2)) (toZ w16 (word bs 4)) (toZ w8 (getD bs 6 0))))
-  (cond (eqb k 7 && (leb 2 (length bs) && leb (length bs) 17)) (Ok (stroke (getD bs 0 0) (drop 1 bs)))
+  (cond (eqb k 7 && strokeLength (length (drop 1 bs))) (Ok (stroke (getD bs 0 0) (drop 1 bs)))
   (cond (is 8 2 k bs) (Ok (cable (getD bs 0 0) (getD bs 1 0)))
   (Err BadRecord))))))))
 

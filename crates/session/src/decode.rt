@@ -1,14 +1,20 @@
 // One record, from its bytes.
 ghost use mathlib.Core.Path.{_≡_};
-ghost use Rattle.session.specs.Records.{said, plain};
-ghost use Rattle.session.specs.Files.{first};
+ghost use lib.ListN.{length};
+ghost use Rattle.session.specs.Records.{strokeLength, said, plain};
+ghost use Rattle.session.specs.Files.{headed, plainHeader};
 ghost use Rattle.session.specs.Readers.{Found};
 use crate::record_kinds::Record;
 use ps2::refusal::Refusal;
 
-// The record at the front of the bytes left, and the bytes behind it.
-pub(crate) fn first<'a>(left: &'a [u8]) -> Result<(Record<'a>, &'a [u8]), Refusal>
-    ensures { λ r. ⌜ Found (now (left .entry)) r ⌝ }
+struct Header {
+    length: usize,
+    kind: u16,
+}
+
+// The header at the front of the bytes left, whose payload is there whole.
+fn read_header(left: &[u8]) -> Result<Header, Refusal>
+    ensures { λ r. ⌜ plainHeader r ≡ headed (now (left .entry)) ⌝ }
 {
     let [length_low, length_high, kind_low, kind_high, body @ ..] = left else {
         return Err(Refusal::FileEndsInside);
@@ -18,8 +24,22 @@ pub(crate) fn first<'a>(left: &'a [u8]) -> Result<(Record<'a>, &'a [u8]), Refusa
     if body.len() < length {
         return Err(Refusal::FileEndsInside);
     }
-    let found = decode(kind, &body[0..length])?;
-    Ok((found, &body[length..]))
+    Ok(Header { length, kind })
+}
+
+// The record at the front of the bytes left, and the bytes behind it.
+pub(crate) fn first<'a>(left: &'a [u8]) -> Result<(Record<'a>, &'a [u8]), Refusal>
+    ensures { λ r. ⌜ Found (now (left .entry)) r ⌝ }
+{
+    let Header { length, kind } = read_header(left)?;
+    let found = decode(kind, &left[4..4 + length])?;
+    Ok((found, &left[4 + length..]))
+}
+
+fn is_stroke(bytes: &[u8]) -> bool
+    ensures { λ r. ⌜ r ≡ strokeLength (length (now (bytes .entry))) ⌝ }
+{
+    bytes.len() >= 1 && bytes.len() <= 16
 }
 
 // What a payload of a kind says.
@@ -39,7 +59,7 @@ fn decode<'a>(kind: u16, payload: &'a [u8]) -> Result<Record<'a>, Refusal>
             dy: i16::from_le_bytes([*dy_low, *dy_high]),
             wheel: wheel.cast_signed(),
         }),
-        (7, [line, bytes @ ..]) if bytes.len() >= 1 && bytes.len() <= 16 => Ok(Record::Stroke {
+        (7, [line, bytes @ ..]) if is_stroke(bytes) => Ok(Record::Stroke {
             line: *line,
             bytes,
         }),

@@ -1,41 +1,46 @@
 use mathlib.Core.Path.{_≡_, sym, ap, _∙_}
 use mathlib.Core.List.{_++_}
-use Prim.Native.Nat.{_+_, _-_, _≤_}
-use native.Mathlib.Nat.{sub-zero}
+use Prim.Native.Nat.{_+_}
 use native.Mathlib.Omega.{arith}
-use lib.ListN.{length, take, drop, length-drop}
-use borrow.Author.Tests.{ltb-false}
-use Rattle.std.specs.declared.result.Result.the-variants.{Ok, Err}
+use lib.ListN.{take, drop}
 use Rattle.std.proofs.shelf.Lists.{take-rest}
 use Rattle.std.proofs.shelf.Results.{err-from-errBy}
-use Rattle.session.specs.Records.{itemOf, bytesOf, plain, said, word}
-use Rattle.session.proofs.Fields.{first-is, bytes-first, rest-is}
+use Rattle.session.specs.Records.{itemOf, bytesOf, plain, said}
+use Rattle.session.specs.Files.{saidBy, first}
+use Rattle.session.proofs.Fields.{Whole, headed-whole, bytes-first}
 use Rattle.session.proofs.decode.first.Needs as need
-use Rattle.session.proofs.decode.first.Needs.{After-decode}
+use Rattle.session.proofs.decode.first.Needs.{In-Continue-length, After-decode}
 
-long : (c : After-decode) → 4 ≤ length (c .args .left .now)
-long c = omega (arith, ltb-false)
+whole : (c : In-Continue-length) → Whole (c .args .left .now) (c .in-Continue-length .field-0 .length) (c .in-Continue-length .field-0 .kind)
+whole c = headed-whole _ _ _ (c .in-Continue-length .ensures tt)
 
-fits : (c : After-decode) → word (c .args .left .now) 0 ≤ length (c .args .left .now) - 4
-fits c =
-    let bs = c .args .left .now in
-    let room : c .from-le-bytes-length .result ≤ length bs - 4 = simp (take-rest, length-drop) at (c .if-body-length .left) in
-    omega (arith, c .from-le-bytes-length .ensures)
+says : (c : After-decode) → plain (c .decode .result) ≡ said (c .in-Continue-length .field-0 .kind) (take (c .in-Continue-length .field-0 .length) (drop 4 (c .args .left .now)))
+says c = c .decode .ensures ∙ ap (λ m. said (c .in-Continue-length .field-0 .kind) (take m (drop 4 (c .args .left .now)))) (omega arith)
 
-says : (c : After-decode) → plain (c .decode .result) ≡ said (word (c .args .left .now) 2) (take (word (c .args .left .now) 0) (drop 4 (c .args .left .now)))
-says c = simp (c .from-le-bytes-length .ensures, c .from-le-bytes-kind .ensures, take-rest, sub-zero) at (c .decode .ensures)
+says-first : (c : After-decode) → said (c .in-Continue-length .field-0 .kind) (take (c .in-Continue-length .field-0 .length) (drop 4 (c .args .left .now))) ≡ first (c .args .left .now)
+says-first c = ap (λ h. saidBy h (c .args .left .now)) (c .in-Continue-length .ensures tt)
 
 pub returns-in-Break-found : need.returns-in-Break-found
 returns-in-Break-found c =
     let d = need.at·returns-in-Break-found c .After-decode in
-    let p = err-from-errBy (c .from-residual .result) (c .from-residual .ensures .1) in
-    rw (p .1, p .2) (sym (ap plain (c .in-Break-found .was tt)) ∙ says d ∙ sym (first-is _ (long d) (fits d)))
+    let p = err-from-errBy (c .from-residual-in-Break-found .result) (c .from-residual-in-Break-found .ensures .1) in
+    rw (p .1, p .2) (sym (ap plain (c .in-Break-found .was tt)) ∙ says d ∙ says-first d)
+
+pub add-result : need.add-result
+add-result c = let w = whole (need.at·add-result c .In-Continue-length) in omega arith
+
+pub part-result-count : need.part-result-count
+part-result-count c = let w = whole (need.at·part-result-count c .In-Continue-length) in omega arith
+
+pub part-result-start : need.part-result-start
+part-result-start c = let w = whole (need.at·part-result-start c .In-Continue-length) in omega arith
 
 pub returns : need.returns
 returns c =
     let d = need.at·returns c .After-decode in
+    let w = whole (need.at·returns c .In-Continue-length) in
     let bs = c .args .left .now in
+    let n = c .in-Continue-length .field-0 .length in
     let i = itemOf (c .in-Continue-found .found) in
     let e = sym (ap plain (c .in-Continue-found .was tt)) ∙ says d in
-    let rest = rest-is bs _ (word bs 0) (c .from-le-bytes-length .ensures) in
-    (e ∙ sym (first-is bs (long d) (fits d)), rest, ap (λ l. bytesOf i ++ l) rest ∙ bytes-first bs (long d) (fits d) (λ k. c .typed .left k .fits) i (sym e))
+    (e ∙ says-first d, take-rest bs (4 + n) ∙ ap (λ m. drop (4 + m) bs) (w .size), ap (λ l. bytesOf i ++ l) (take-rest bs (4 + n)) ∙ bytes-first bs n _ w (λ j. c .typed .left j .fits) i (sym e))
