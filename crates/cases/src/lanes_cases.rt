@@ -13,7 +13,14 @@ use std::test::*;
 
 // A chord on four ports, a timeout of port 2, a keyboard byte, an empty status and a Legacy byte.
 const READINGS: [u16; 8] = [
-    0x2181, 0x618a, 0xa193, 0xe19c, 0xa5fe, 0x011c, 0x0000, 0x25fa,
+    0x2181,
+    0x618a,
+    0xa193,
+    0xe19c,
+    0xa5fe,
+    0x011c,
+    0x0000,
+    0x25fa,
 ];
 
 #[test]
@@ -31,7 +38,10 @@ fn sizes() -> Result<(), Fail> {
     check_eq(lane_size(&READINGS, 3), Ok(1))?;
     check_eq(lane_size(&READINGS, 4), Err(Refusal::NoSuchLine))?;
     check_eq(lane_size(&[], 0), Ok(0))?;
-    let untagged = Untagged { total: 4, faults: 2 };
+    let untagged = Untagged {
+        total: 4,
+        faults: 2,
+    };
     check_eq(count_untagged(&READINGS), Ok(untagged))
 }
 
@@ -58,7 +68,13 @@ fn buffers() -> Result<(), Fail> {
     check_eq(fill_lane(&readings, 0, &mut exact), Ok(2))?;
     check_eq(exact, [0x81, 0x40])?;
     let mut short = [7];
-    check_eq(fill_lane(&readings, 0, &mut short), Err(Refusal::BufferTooShort))?;
-    check_eq(fill_lane(&readings, 4, &mut short), Err(Refusal::NoSuchLine))?;
+    check_eq(
+        fill_lane(&readings, 0, &mut short),
+        Err(Refusal::BufferTooShort),
+    )?;
+    check_eq(
+        fill_lane(&readings, 4, &mut short),
+        Err(Refusal::NoSuchLine),
+    )?;
     check_eq(short, [7])
 }

@@ -3,7 +3,9 @@ use report::explain::explain;
 use std::test::*;
 
 const CUT: &str = "refused at 0 with 4: the file ends inside a record, or is empty\n";
+
 const BAD: &str = "refused at 0 with 5: unknown kind, or wrong length for its kind\n";
+
 const LONG: &str = "refused at 0 with 8: the file is above 65,536 bytes\n";
 
 fn says(rt: &LibcRuntime, file: &[u8], text: &str) -> Result<(), Fail> {
@@ -28,7 +30,10 @@ fn long_files(rt: LibcRuntime) -> Result<(), Fail> {
         file.extend_from_slice(&[0, 0, 5, 0])?;
     }
     let said = explain(rt.alloc(), file.as_slice())?;
-    check(said.as_str().ends_with("\n16384 at 65532: turn\nend at 65536: 16384 in all\n"))?;
+    check(
+        said.as_str()
+            .ends_with("\n16384 at 65532: turn\nend at 65536: 16384 in all\n"),
+    )?;
     file.push(0)?;
     says(&rt, file.as_slice(), LONG)
 }
@@ -36,7 +41,11 @@ fn long_files(rt: LibcRuntime) -> Result<(), Fail> {
 #[test]
 fn kinds(rt: LibcRuntime) -> Result<(), Fail> {
     says(&rt, &[0, 0, 0, 0], BAD)?;
-    says(&rt, &[2, 0, 8, 0, 4, 1], "1 at 0: cable, line 4: plug\nend at 6: 1 in all\n")?;
+    says(
+        &rt,
+        &[2, 0, 8, 0, 4, 1],
+        "1 at 0: cable, line 4: plug\nend at 6: 1 in all\n",
+    )?;
     says(&rt, &[2, 0, 9, 0, 4, 1], BAD)?;
     says(&rt, &[0, 0, 5, 1], BAD)?;
     // 4 is smaller than 5: a cut payload is never judged further
@@ -57,17 +66,24 @@ fn lengths(rt: LibcRuntime) -> Result<(), Fail> {
 #[test]
 fn strokes(rt: LibcRuntime) -> Result<(), Fail> {
     says(&rt, &[1, 0, 7, 0, 2], BAD)?;
-    says(&rt, &[2, 0, 7, 0, 2, 0x81], "1 at 0: stroke, line 2: 81\nend at 6: 1 in all\n")?;
-    let most = [17, 0, 7, 0, 2, 0, 1, 2, 3, 4, 5, 6, 7, 8, 9, 10, 11, 12, 13, 14, 15];
-    let text = "1 at 0: stroke, line 2: 00 01 02 03 04 05 06 07 08 09 0a 0b 0c 0d 0e 0f\nend at 21: 1 in all\n";
-    says(&rt, &most, text)?;
-    let more = [18, 0, 7, 0, 2, 0, 1, 2, 3, 4, 5, 6, 7, 8, 9, 10, 11, 12, 13, 14, 15, 16];
-    says(&rt, &more, BAD)
+    says(
+        &rt,
+        &[2, 0, 7, 0, 2, 0x81],
+        "1 at 0: stroke, line 2: 81\nend at 6: 1 in all\n",
+    )?;
+    let most = b"\x11\0\x07\0\x02\x00\x01\x02\x03\x04\x05\x06\x07\x08\x09\x0a\x0b\x0c\x0d\x0e\x0f";
+    let text =
+        "1 at 0: stroke, line 2: 00 01 02 03 04 05 06 07 08 09 0a 0b 0c 0d 0e 0f\nend at 21: 1 in all\n";
+    says(&rt, most, text)?;
+    let more =
+        b"\x12\0\x07\0\x02\x00\x01\x02\x03\x04\x05\x06\x07\x08\x09\x0a\x0b\x0c\x0d\x0e\x0f\x10";
+    says(&rt, more, BAD)
 }
 
 #[test]
 fn movements(rt: LibcRuntime) -> Result<(), Fail> {
     let file = [7, 0, 6, 0, 9, 255, 0, 0x80, 0xff, 0x7f, 9];
-    let text = "1 at 0: movement, line 9: buttons 255, dx -32768, dy 32767, wheel 9\nend at 11: 1 in all\n";
+    let text =
+        "1 at 0: movement, line 9: buttons 255, dx -32768, dy 32767, wheel 9\nend at 11: 1 in all\n";
     says(&rt, &file, text)
 }

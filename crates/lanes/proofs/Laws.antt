@@ -32,7 +32,7 @@ unfolding lane
 lane-more p rs i h =
     let r = getD rs i 0 in
     let one : (t : Bool) → map dataByte (cond t (r ∷ []) []) ≡ cond t (dataByte r ∷ []) [] =
-      λ t. elim t as (λ t. map dataByte (cond t (r ∷ []) []) ≡ cond t (dataByte r ∷ []) []) [ true ↦ refl | false ↦ refl ] in
+    λ t. elim t as (λ t. map dataByte (cond t (r ∷ []) []) ≡ cond t (dataByte r ∷ []) []) [ true ↦ refl | false ↦ refl ] in
     ap (map dataByte) (kept-by-more (isOf p) rs i 0 h) ∙ map-append dataByte (kept-by (isOf p) (take i rs)) (cond (isOf p r) (r ∷ []) []) ∙ ap (λ z. map dataByte (kept-by (isOf p) (take i rs)) ++ z) (one (isOf p r))
 
 pub lane-size : (p : ℕ) (rs : List ℕ) → length (lane p rs) ≡ countBy (isOf p) rs

@@ -12,6 +12,7 @@ use crate::reading::port_of;
 use ps2::refusal::Refusal;
 
 const LAST_PORT: u8 = 3;
+
 const MOST_READINGS: usize = 32_768;
 
 // The readings that belong to no port: how many, and how many of them are faults.

@@ -5,7 +5,9 @@ ghost use Rattle.lanes.specs.Readings.{status, dataByte, bit, portOf, fault, O
 
 // Bits of the status byte, by number.
 const OUTPUT_FULL: u32 = 0;
+
 const ERROR: u32 = 2;
+
 const AUX: u32 = 5;
 
 fn status_of(reading: u16) -> u8
@@ -36,7 +38,11 @@ pub fn port_of(reading: u16) -> Option<u8>
     let full = is_set(status, OUTPUT_FULL);
     let aux = is_set(status, AUX);
     let error = is_set(status, ERROR);
-    if full && aux && !error { Some(status >> 6) } else { None }
+    if full && aux && !error {
+        Some(status >> 6)
+    } else {
+        None
+    }
 }
 
 // Whether OBF, AUX and Error are all set: a fault in Multiplexed mode, or any AUX byte in Legacy mode.

@@ -80,11 +80,11 @@ module _ {goal : List ℕ} {r : Reader} {number : ℕ} {text : List ℕ} (so : S
 
     pub at-record : (place : ℕ) (more : List ℕ) → place ≡ length (fileOf r) - length (leftOf r) → more ≡ text ++ line (number + 1) place i → Sofar goal s (number + 1) more
     at-record at more p m =
-      let rest = linesOf (number + 1) (length (joined bytesOf (so .is ++ (i ∷ [])))) (session (leftOf s)) in
-      record {
-      is = so .is ++ (i ∷ []);
-      handed = keeps .joins (so .is) (so .handed);
-      short = subst (λ f. length f ≤ 65536) (sym (step .same)) (so .short);
-      few = omega (arith, shorter, so .few, ap length (step .same));
-      written = ap (λ l. l ++ rest) m ∙ append-assoc text (line (number + 1) at i) rest ∙ ap (λ l. text ++ l) ((λ k. line (number + 1) ((p ∙ place) k) i ++ linesOf (number + 1) (size k) (step .rest k)) ∙ sym (lines-some number _ _ _ i (step .value))) ∙ so .written;
-    }
+        let rest = linesOf (number + 1) (length (joined bytesOf (so .is ++ (i ∷ [])))) (session (leftOf s)) in
+        record {
+          is = so .is ++ (i ∷ []);
+          handed = keeps .joins (so .is) (so .handed);
+          short = subst (λ f. length f ≤ 65536) (sym (step .same)) (so .short);
+          few = omega (arith, shorter, so .few, ap length (step .same));
+          written = ap (λ l. l ++ rest) m ∙ append-assoc text (line (number + 1) at i) rest ∙ ap (λ l. text ++ l) ((λ k. line (number + 1) ((p ∙ place) k) i ++ linesOf (number + 1) (size k) (step .rest k)) ∙ sym (lines-some number _ _ _ i (step .value))) ∙ so .written;
+        }

@@ -59,7 +59,10 @@ fn write_untagged(text: &mut String, none: Untagged) -> fmt::Result
 {
     let total = none.total;
     let faults = none.faults;
-    write!(text, "none ({total}): {faults} with OBF, AUX and Error all set\n")
+    write!(
+        text,
+        "none ({total}): {faults} with OBF, AUX and Error all set\n"
+    )
 }
 
 // The four lanes in hexadecimal with their sizes, and the readings that belong to none.

@@ -4,13 +4,12 @@ ghost use Rattle.std.specs.declared.option.Option.the-variants.{Some};
 ghost use Rattle.report.specs.Failures.{failureWords};
 ghost use Rattle.report.specs.declared.failure.Failure.the-variants.{Refused, OutOfMemory};
 use ps2::refusal::Refusal;
-use ps2::refusal::RefusalDebug;
 use ps2::refusal::RefusalDisplay;
 use std::alloc::AllocError;
 use std::error::Error;
 use std::fmt;
 
-#[derive(Clone, Copy, Debug)]
+#[derive(Clone, Copy)]
 pub enum Failure {
     Refused(Refusal),
     OutOfMemory,
@@ -27,6 +26,13 @@ pub impl fmt::Display for Failure as FailureDisplay {
             }
             Failure::OutOfMemory => write!(f, "out of memory"),
         }
+    }
+}
+
+// The same words: a program's report of an error prints this form.
+pub impl fmt::Debug for Failure as FailureDebug {
+    fn fmt<W: fmt::Write>(&self, f: &mut fmt::Formatter<W>) -> fmt::Result {
+        fmt::Display::fmt(self, f)
     }
 }
 

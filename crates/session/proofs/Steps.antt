@@ -69,7 +69,7 @@ read-refused r e some h =
 read-found : (r s : Reader) (i : Item) → 0 < length (leftOf r) → Ok i ≡ first (leftOf r) → leftOf s ≡ drop (4 + word (leftOf r) 0) (leftOf r) → bytesOf i ++ leftOf s ≡ leftOf r → fileOf s ≡ fileOf r → Read r (Ok (Some i)) s
 read-found r s i some h rest all file =
     let q : session (leftOf r) ≡ onward (Ok i) (session (leftOf s)) =
-      session-more (leftOf r) some ∙ (λ k. onward (sym h k) (session (sym rest k))) in
+    session-more (leftOf r) some ∙ (λ k. onward (sym h k) (session (sym rest k))) in
     record {
       step = record {
         value = sym (ap answered q);

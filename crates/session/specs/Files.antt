@@ -24,9 +24,9 @@ use Rattle.session.specs.Records.{Item, bytesOf, Valid, word, said}
 -- payload length and kind, where header and payload are there whole
 abbrev pub headed : List ℕ → Result (ℕ × ℕ) Refusal
 headed bs =
-  refusing (ltb (length bs) 4) FileEndsInside
-  (refusing (ltb (length bs - 4) (word bs 0)) FileEndsInside
-  (Ok (word bs 0, word bs 2)))
+    refusing (ltb (length bs) 4) FileEndsInside
+    (refusing (ltb (length bs - 4) (word bs 0)) FileEndsInside
+    (Ok (word bs 0, word bs 2)))
 
 abbrev pub plainHeader : Result Header Refusal → Result (ℕ × ℕ) Refusal
 plainHeader (Ok h) = Ok (h .length, h .kind)

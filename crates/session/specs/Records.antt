@@ -94,15 +94,15 @@ strokeLength n = leb 1 n && leb n 16
 
 abbrev pub said : ℕ → List ℕ → Result Item Refusal
 said k bs =
-  cond (is 1 1 k bs) (Ok (commandWrite (getD bs 0 0)))
-  (cond (is 2 1 k bs) (Ok (dataWrite (getD bs 0 0)))
-  (cond (is 3 0 k bs) (Ok statusRead)
-  (cond (is 4 0 k bs) (Ok dataRead)
-  (cond (is 5 0 k bs) (Ok turn)
-  (cond (is 6 7 k bs) (Ok (movement (getD bs 0 0) (getD bs 1 0) (toZ w16 (word bs 2)) (toZ w16 (word bs 4)) (toZ w8 (getD bs 6 0))))
-  (cond (eqb k 7 && strokeLength (length (drop 1 bs))) (Ok (stroke (getD bs 0 0) (drop 1 bs)))
-  (cond (is 8 2 k bs) (Ok (cable (getD bs 0 0) (getD bs 1 0)))
-  (Err BadRecord))))))))
+    cond (is 1 1 k bs) (Ok (commandWrite (getD bs 0 0)))
+    (cond (is 2 1 k bs) (Ok (dataWrite (getD bs 0 0)))
+    (cond (is 3 0 k bs) (Ok statusRead)
+    (cond (is 4 0 k bs) (Ok dataRead)
+    (cond (is 5 0 k bs) (Ok turn)
+    (cond (is 6 7 k bs) (Ok (movement (getD bs 0 0) (getD bs 1 0) (toZ w16 (word bs 2)) (toZ w16 (word bs 4)) (toZ w8 (getD bs 6 0))))
+    (cond (eqb k 7 && strokeLength (length (drop 1 bs))) (Ok (stroke (getD bs 0 0) (drop 1 bs)))
+    (cond (is 8 2 k bs) (Ok (cable (getD bs 0 0) (getD bs 1 0)))
+    (Err BadRecord))))))))
 
 abbrev pub plain : Result Record Refusal → Result Item Refusal
 plain (Ok r) = Ok (itemOf r)

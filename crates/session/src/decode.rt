@@ -59,10 +59,7 @@ fn decode<'a>(kind: u16, payload: &'a [u8]) -> Result<Record<'a>, Refusal>
             dy: i16::from_le_bytes([*dy_low, *dy_high]),
             wheel: wheel.cast_signed(),
         }),
-        (7, [line, bytes @ ..]) if is_stroke(bytes) => Ok(Record::Stroke {
-            line: *line,
-            bytes,
-        }),
+        (7, [line, bytes @ ..]) if is_stroke(bytes) => Ok(Record::Stroke { line: *line, bytes }),
         (8, [line, action]) => Ok(Record::Cable {
             line: *line,
             action: *action,

@@ -15,8 +15,9 @@ loop-reading-again c =
     let inv = c .loop-reading .inv in
     let i = c .loop-reading-test .taken in
     elim (c .if-is-of .came) [
-      then-is-of w ↦ let kept = sym (c .is-of .ensures) ∙ w .if-is-of .taken in simp (w .out-is, w .size-is) (simp (w .data-of .ensures) (filling-kept inv i kept (fits inv i kept (omega arith))))
-      | else-is-of w ↦ simp (w .out-is, w .size-is) (filling-passed inv i (sym (c .is-of .ensures) ∙ w .if-is-of .left)) ]
+      | then-is-of w ↦ let kept = sym (c .is-of .ensures) ∙ w .if-is-of .taken in simp (w .out-is, w .size-is) (simp (w .data-of .ensures) (filling-kept inv i kept (fits inv i kept (omega arith))))
+      | else-is-of w ↦ simp (w .out-is, w .size-is) (filling-passed inv i (sym (c .is-of .ensures) ∙ w .if-is-of .left))
+    ]
 
 pub returns : need.returns
 returns c = filled-all (c .loop-reading .inv) (c .loop-reading-test .left)
