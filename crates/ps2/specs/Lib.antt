@@ -1,1 +1,4 @@
 pub mod Refusals
+pub mod Entries
+pub mod Events
+pub mod Kinds

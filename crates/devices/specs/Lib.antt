@@ -1,0 +1,3 @@
+pub mod Queues
+pub mod Boards
+pub mod Cables
