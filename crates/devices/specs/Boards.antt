@@ -1,5 +1,6 @@
 -- Boards: the kind of a pickup board.
 --   BoardValue      whether an acknowledge waits, and the stroke bytes that wait
+--   blank           nothing waits
 --   boardKind       what waits is the acknowledge, then the strokes; a byte is taken where no acknowledge waits;
 --                   a stroke has room where all of it finds a place
 use mathlib.Core.Path.{_≡_, refl}
@@ -16,6 +17,9 @@ use Rattle.devices.specs.Queues.{bytesOf, fits}
 pub record BoardValue : Type 0 where
   pub acknowledges : Bool
   pub strokes : List ℕ
+
+abbrev pub blank : BoardValue
+blank = record { acknowledges = false; strokes = [] }
 
 abbrev pub entries : List ℕ → List Entry
 entries [] = []
@@ -58,7 +62,7 @@ boardKind = record {
   waiting = λ v. boardWaiting (v .acknowledges) (v .strokes);
   takes = λ v b. not (v .acknowledges);
   room = boardRoom;
-  powered = λ v. record { acknowledges = false; strokes = [] };
+  powered = λ v. blank;
   given = λ v. boardGiven (v .acknowledges) (v .strokes);
   received = λ v b. record { acknowledges = true; strokes = v .strokes };
   happened = boardHappened;

@@ -1,3 +1,4 @@
 pub mod Queues
 pub mod Boards
+pub mod BoardRuns
 pub mod Cables

@@ -1,11 +1,13 @@
 // A pickup board: keeps up to 16 stroke bytes, and acknowledges a host byte ahead of them.
 ghost use mathlib.Core.Path.{_≡_};
-ghost use Rattle.devices.specs.Boards.{boardModel};
+ghost use Rattle.devices.specs.BoardRuns.{Loses-nothing};
+ghost use Rattle.devices.specs.Boards.{blank, boardModel};
 use crate::queue::Queue;
 use ps2::device::Device;
 use ps2::entry::Entry;
 use ps2::event::Event;
 use ps2::refusal::Refusal;
+use std::mem;
 
 const ACKNOWLEDGE: u8 = 0xFA;
 
@@ -13,6 +15,19 @@ const ACKNOWLEDGE: u8 = 0xFA;
 pub struct Board {
     strokes: Queue,
     acknowledges: bool,
+}
+
+impl Board {
+    // A board with nothing to say. Whatever it accepts from then on, it loses nothing.
+    pub fn new() -> Board
+        ensures value { λ r. ⌜ boardModel .meaning r ≡ blank ⌝ }
+        ensures keeps { λ _. ⌜ Loses-nothing ⌝ }
+    {
+        Board {
+            strokes: Queue::new(),
+            acknowledges: false,
+        }
+    }
 }
 
 pub impl Device for Board as BoardDevice {
@@ -28,8 +43,7 @@ pub impl Device for Board as BoardDevice {
     }
 
     fn give(&mut self) -> Option<Entry> {
-        if self.acknowledges {
-            self.acknowledges = false;
+        if mem::replace(&mut self.acknowledges, false) {
             return Some(Entry::Byte(ACKNOWLEDGE));
         }
         match self.strokes.pop() {

@@ -1,6 +1,7 @@
 // A cable over a device of any kind, which can be pulled and plugged.
 ghost use mathlib.Core.Path.{_≡_};
-ghost use Rattle.devices.specs.Cables.{cableModel};
+ghost use mathlib.Core.Bool.{true};
+ghost use Rattle.devices.specs.Cables.{cableValue, cableModel};
 use ps2::device::Device;
 use ps2::entry::Entry;
 use ps2::event::Event;
@@ -10,6 +11,18 @@ use ps2::refusal::Refusal;
 pub struct Cable<D> {
     below: D,
     plugged: bool,
+}
+
+impl<D: Device> Cable<D> {
+    // A plugged cable over a device as it stands.
+    pub fn new(below: D) -> Cable<D>
+        ensures { λ r. ⌜ cableModel (D·Device .model) .meaning r ≡ cableValue (D·Device .model .kind) true (D·Device .model .meaning below) ⌝ }
+    {
+        Cable {
+            below,
+            plugged: true,
+        }
+    }
 }
 
 pub impl<D: Device> Device for Cable<D> as CableDevice {
@@ -25,7 +38,11 @@ pub impl<D: Device> Device for Cable<D> as CableDevice {
     }
 
     fn give(&mut self) -> Option<Entry> {
-        if self.plugged { self.below.give() } else { None }
+        if self.plugged {
+            self.below.give()
+        } else {
+            None
+        }
     }
 
     fn receive(&mut self, byte: u8) -> bool {
@@ -38,11 +55,9 @@ pub impl<D: Device> Device for Cable<D> as CableDevice {
                 self.plugged = false;
                 Ok(())
             }
+            Event::Plug if self.plugged => Ok(()),
             Event::Plug => {
-                if !self.plugged {
-                    self.plugged = true;
-                    self.below.power_up();
-                }
+                self.power_up();
                 Ok(())
             }
             _ => {

@@ -20,5 +20,5 @@ returns c =
     let room : leb (length (take (q .len) (q .bytes)) + length bs) 16 ≡ true = le-leb _ _ (omega arith) in
     let copied = c .copy-from-slice .ensures .after in
     let after : take (q .len + length bs) (putMid (q .len) ((q .len + length bs) - q .len) (q .bytes) (c .copy-from-slice .last .self)) ≡ take (q .len) (q .bytes) ++ bs =
-      take-putMid (q .len) ((q .len + length bs) - q .len) (q .bytes) _ (q .len + length bs) (simp copied) inside ∙ ap (λ l. take (q .len) (q .bytes) ++ l) copied in
+    take-putMid (q .len) ((q .len + length bs) - q .len) (q .bytes) _ (q .len + length bs) (simp copied) inside ∙ ap (λ l. take (q .len) (q .bytes) ++ l) copied in
     record { value = sym room; after = simp (room, after) }
