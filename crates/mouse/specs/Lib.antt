@@ -1,0 +1,4 @@
+pub mod Settings
+pub mod Packets
+pub mod Counters
+pub mod Reports
