@@ -9,6 +9,7 @@ use Prim.Native.Nat.{ℕ}
 use lib.Dec.{eqb}
 use Rattle.mouse.specs.declared.settings.Variant.{Variant}
 use Rattle.mouse.specs.declared.settings.Variant.the-variants as variant
+use Rattle.mouse.specs.declared.settings.Mode.{Mode}
 use Rattle.mouse.specs.declared.settings.Mode.the-variants.{Stream}
 use Rattle.mouse.specs.declared.settings.Identity.{Identity}
 use Rattle.mouse.specs.declared.settings.Identity.the-variants.{Standard, Wheel, FiveButtons}
@@ -35,3 +36,19 @@ identified variant.Wheel rs id = cond (are rs 80 100 200) Wheel (cond (are rs 80
 
 abbrev pub knocked : Variant → Knock → ℕ → Knock
 knocked v k r = record { id = identified v (r, k .rates .0, k .rates .1) (k .id); rates = (r, k .rates .0, k .rates .1) }
+
+-- settings with one of them changed
+abbrev pub modeTo : Mode → Settings → Settings
+modeTo m s = record { mode = m; reporting = s .reporting; doubled = s .doubled; resolution = s .resolution; rate = s .rate }
+
+abbrev pub reportingTo : Bool → Settings → Settings
+reportingTo r s = record { mode = s .mode; reporting = r; doubled = s .doubled; resolution = s .resolution; rate = s .rate }
+
+abbrev pub doubledTo : Bool → Settings → Settings
+doubledTo d s = record { mode = s .mode; reporting = s .reporting; doubled = d; resolution = s .resolution; rate = s .rate }
+
+abbrev pub resolutionTo : ℕ → Settings → Settings
+resolutionTo r s = record { mode = s .mode; reporting = s .reporting; doubled = s .doubled; resolution = r; rate = s .rate }
+
+abbrev pub rateTo : ℕ → Settings → Settings
+rateTo r s = record { mode = s .mode; reporting = s .reporting; doubled = s .doubled; resolution = s .resolution; rate = r }

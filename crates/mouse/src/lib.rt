@@ -1,5 +1,7 @@
 // The PS/2 mouse, plain or with a wheel, as its published description has it.
+pub mod mouse;
+mod command;
 mod counters;
 mod packet;
 mod report;
-mod settings;
+pub mod settings;
