@@ -49,10 +49,18 @@ echoed b m = record {
   answer = record { acknowledges = false; packet = One b; last = One b };
 }
 
+-- where no packet was queued yet, AAh 00h
+abbrev pub recalled : Packet → Packet
+recalled Empty = Two 0xAA 0
+recalled (One a) = One a
+recalled (Two a b) = Two a b
+recalled (Three a b c) = Three a b c
+recalled (Four a b c d) = Four a b c d
+
 abbrev pub resent : Mouse → Mouse
 resent m = record {
   variant = m .variant; settings = m .settings; dialog = m .dialog; knock = m .knock; motion = m .motion;
-  answer = record { acknowledges = false; packet = m .answer .last; last = m .answer .last };
+  answer = record { acknowledges = false; packet = recalled (m .answer .last); last = m .answer .last };
 }
 
 -- a mouse with one part changed

@@ -5,3 +5,5 @@ pub mod Reports
 pub mod Commands
 pub mod Mice
 pub mod Hearing
+pub mod Moving
+pub mod MouseKind

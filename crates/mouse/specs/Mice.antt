@@ -5,7 +5,7 @@ use mathlib.Core.Bool.{Bool, true, false}
 use lib.IntN.{pos}
 use Rattle.mouse.specs.declared.counters.Axis.{Axis}
 use Rattle.mouse.specs.declared.counters.Counters.{Counters}
-use Rattle.mouse.specs.declared.packet.Packet.the-variants.{Two}
+use Rattle.mouse.specs.declared.packet.Packet.the-variants.{Empty, Two}
 use Rattle.mouse.specs.declared.settings.Variant.{Variant}
 use Rattle.mouse.specs.declared.settings.Identity.the-variants.{Standard}
 use Rattle.mouse.specs.declared.mouse.Awaited.the-variants.{Nothing}
@@ -25,5 +25,5 @@ began v a = record {
   dialog = record { wrapped = false; awaited = Nothing };
   knock = record { id = Standard; rates = (0, 0, 0) };
   motion = record { counters = still; buttons = 0; reported = 0 };
-  answer = record { acknowledges = a; packet = Two 0xAA 0; last = Two 0xAA 0 };
+  answer = record { acknowledges = a; packet = Two 0xAA 0; last = Empty };
 }

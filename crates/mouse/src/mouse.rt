@@ -1,6 +1,7 @@
 // A PS/2 mouse: what it keeps, and what becomes of it.
 ghost use mathlib.Core.Path.{_≡_};
 ghost use Rattle.mouse.specs.Mice.{began};
+ghost use mathlib.Core.Bool.{false};
 use crate::counters::Axis;
 use crate::counters::Counters;
 use crate::packet::Packet;
@@ -10,6 +11,7 @@ use crate::settings::Settings;
 use crate::settings::Variant;
 
 mod hearing;
+mod mouse_device;
 mod moving;
 
 #[derive(Clone, Copy)]
@@ -34,7 +36,7 @@ struct Motion {
     reported: u8,
 }
 
-// What waits for the host, an acknowledge first, and what a Resend would repeat.
+// What waits for the host, an acknowledge first; and the last packet queued, which a Resend repeats.
 #[derive(Clone, Copy)]
 struct Answer {
     acknowledges: bool,
@@ -65,6 +67,15 @@ const NO_MOVEMENT: Counters = Counters {
 
 const SELF_TEST_PASSED: Packet = Packet::Two(0xAA, 0x00);
 
+impl Mouse {
+    // A mouse that was just powered up.
+    pub fn new(variant: Variant) -> Mouse
+        ensures { λ r. ⌜ r ≡ began variant false ⌝ }
+    {
+        begun(variant, false)
+    }
+}
+
 // A mouse as power-up or a Reset leaves it; a Reset acknowledges first.
 fn begun(variant: Variant, acknowledges: bool) -> Mouse
     ensures { λ r. ⌜ r ≡ began variant acknowledges ⌝ }
@@ -88,7 +99,7 @@ fn begun(variant: Variant, acknowledges: bool) -> Mouse
         answer: Answer {
             acknowledges,
             packet: SELF_TEST_PASSED,
-            last: SELF_TEST_PASSED,
+            last: Packet::Empty,
         },
     }
 }

@@ -5,6 +5,7 @@ use super::Answer;
 use super::Awaited;
 use super::Mouse;
 use super::NO_MOVEMENT;
+use super::SELF_TEST_PASSED;
 use super::begun;
 use crate::command::Command;
 use crate::packet::Packet;
@@ -54,7 +55,10 @@ impl Mouse {
         ensures { λ _. ⌜ now (self .exit) ≡ resent (now (self .entry)) ⌝ }
     {
         self.answer.acknowledges = false;
-        self.answer.packet = self.answer.last;
+        self.answer.packet = match self.answer.last {
+            Packet::Empty => SELF_TEST_PASSED,
+            last => last,
+        };
     }
 
     fn read_data(&mut self)
