@@ -1,6 +1,6 @@
 -- The kind of a device that takes nothing and keeps nothing.
-use mathlib.Core.Path.{_≡_, refl}
-use mathlib.Core.Bool.{Bool, true, false}
+use mathlib.Core.Path.{refl}
+use mathlib.Core.Bool.{true, false}
 use mathlib.Core.List.{[]}
 use Rattle.ps2.specs.Kinds.{Kind, Model}
 use Rattle.cases.specs.declared.silent.Silent.{Silent}

@@ -54,6 +54,9 @@ fn shown_entries() -> Result<(), Fail> {
 
 #[test]
 fn board_room() -> Result<(), Fail> {
+    let mut full = Board::new();
+    check_eq(full.event(stroke(&[1; 16])), Ok(()))?;
+    check_eq(full.event(stroke(&[1])), Err(Refusal::NoRoom))?;
     let mut board = Board::new();
     check_eq(board.event(stroke(&[1; 17])), Err(Refusal::NoRoom))?;
     check_eq(board.event(stroke(&[1; 15])), Ok(()))?;

@@ -9,6 +9,8 @@ use lanes::reading::port_of;
 use ps2::refusal::Refusal;
 use ps2::refusal::RefusalDebug;
 use ps2::refusal::RefusalPartialEq;
+use report::demux::demux;
+use report::failure::Failure;
 use std::test::*;
 
 // A chord on four ports, a timeout of port 2, a keyboard byte, an empty status and a Legacy byte.
@@ -40,7 +42,7 @@ fn sizes() -> Result<(), Fail> {
     check_eq(lane_size(&[], 0), Ok(0))?;
     let untagged = Untagged {
         total: 4,
-        faults: 2,
+        errors: 2,
     };
     check_eq(count_untagged(&READINGS), Ok(untagged))
 }
@@ -77,4 +79,16 @@ fn buffers() -> Result<(), Fail> {
         Err(Refusal::NoSuchLine),
     )?;
     check_eq(short, [7])
+}
+
+#[test]
+fn demuxed(rt: LibcRuntime) -> Result<(), Fail> {
+    let pairs = vec![in rt.alloc(); [0x21u8, 0x55u8]; 32_769]?;
+    let all = pairs.as_slice();
+    check(all.len() == 32_769)?;
+    check(demux(rt.alloc(), &all[0..32_768]).is_ok())?;
+    match demux(rt.alloc(), all) {
+        Err(Failure::Refused(refusal)) => check_eq(refusal, Refusal::TooManyReadings),
+        _ => Err(Fail::new("not refused")),
+    }
 }

@@ -60,11 +60,12 @@ fn lengths(rt: LibcRuntime) -> Result<(), Fail> {
     // a wrong length before a line that no event can go to
     says(&rt, &[3, 0, 8, 0, 9, 0, 0], BAD)?;
     // a length of 256 is read low byte first
-    says(&rt, &[0, 1, 5, 0], CUT)
+    says(&rt, &[0, 1, 5, 0, 0], CUT)
 }
 
 #[test]
 fn strokes(rt: LibcRuntime) -> Result<(), Fail> {
+    says(&rt, &[0, 0, 7, 0], BAD)?;
     says(&rt, &[1, 0, 7, 0, 2], BAD)?;
     says(
         &rt,

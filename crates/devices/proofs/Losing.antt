@@ -1,16 +1,16 @@
 -- A board loses nothing.
-use mathlib.Core.Path.{_≡_, refl, sym, ap, subst, _∙_}
+use mathlib.Core.Path.{_≡_, refl, sym, ap, _∙_}
 use mathlib.Core.Bool.{Bool, true, false, cond, not}
-use mathlib.Core.List.{List, [], _∷_, _++_, append-nil, append-assoc}
+use mathlib.Core.List.{List, [], _∷_, _++_, append-assoc}
 use Prim.Native.Nat.{ℕ, _+_}
 use native.Mathlib.Omega.{arith}
 use Rattle.std.proofs.shelf.Tests.{not-true}
-use Rattle.ps2.specs.Events.{Happening, movement, stroke, pull, plug}
+use Rattle.ps2.specs.Events.{movement, stroke, pull, plug}
 use Rattle.ps2.specs.Kinds.{first, chosen}
 use Rattle.ps2.specs.Runs.{Call, gives, receives, happens, Ran, begun, giving, receiving, happening}
-use Rattle.devices.specs.Boards.{BoardValue, boardWaiting, boardGiven, boardRoom, boardHappened, boardKind}
+use Rattle.devices.specs.Boards.{BoardValue, boardWaiting, boardGiven, boardHappened, boardKind}
 use Rattle.devices.specs.Queues.{fits}
-use Rattle.devices.specs.BoardRuns.{owed, strokesIn, strokesOut, taken, acknowledged, Kept, Loses-nothing}
+use Rattle.devices.specs.BoardRuns.{owed, strokesIn, strokesOut, taken, acknowledged, Loses-nothing}
 
 -- the same by the fields, with what is owed
 record Keeps (h : List Call) (a : Bool) (bs : List ℕ) : Type 0 where

@@ -1,6 +1,6 @@
 -- What a queue's array means as a list.
-use mathlib.Core.Path.{_≡_, refl, sym}
-use mathlib.Core.Bool.{not, true, false}
+use mathlib.Core.Path.{_≡_, refl}
+use mathlib.Core.Bool.{not}
 use mathlib.Core.List.{List, [], _∷_, _++_}
 use Prim.Native.Nat.{ℕ, zero, suc, _+_, _-_, _≤_, _<_}
 use native.Mathlib.Omega.{arith}

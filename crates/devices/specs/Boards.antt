@@ -10,7 +10,7 @@ use Prim.Native.Nat.{ℕ}
 use Rattle.ps2.specs.declared.entry.Entry.{Entry}
 use Rattle.ps2.specs.declared.entry.Entry.the-variants.{Byte}
 use Rattle.ps2.specs.Events.{Happening, movement, stroke, pull, plug}
-use Rattle.ps2.specs.Kinds.{Kind, Model, nonempty, rest}
+use Rattle.ps2.specs.Kinds.{Kind, Model, rest}
 use Rattle.devices.specs.declared.board.Board.{Board}
 use Rattle.devices.specs.Queues.{bytesOf, fits}
 

@@ -18,7 +18,7 @@ pub struct Board {
 }
 
 impl Board {
-    // A board with nothing to say. Whatever it accepts from then on, it loses nothing.
+    // A board with nothing to say. Of what it accepts it loses nothing, until it is powered up again.
     pub fn new() -> Board
         ensures value { λ r. ⌜ boardModel .meaning r ≡ blank ⌝ }
         ensures keeps { λ _. ⌜ Loses-nothing ⌝ }

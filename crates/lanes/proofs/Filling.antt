@@ -9,7 +9,7 @@ use lib.Seq.{drop-set-lt, drop-drop}
 use Rattle.std.proofs.shelf.Lists.{append-nil, length-set, length-take-le, take-all, take-more-set}
 use Rattle.lanes.specs.Readings.{dataByte, isOf}
 use Rattle.lanes.specs.Lanes.{lane}
-use Rattle.lanes.proofs.Laws.{part, lane-more, lane-front}
+use Rattle.lanes.proofs.Laws.{lane-more, lane-front}
 
 -- the first n bytes of out are the lane of the first i readings; behind them it is as it began
 pub record Filling (p : ℕ) (rs old out : List ℕ) (n i : ℕ) : Type 0 where

@@ -1,18 +1,18 @@
 -- The lane reading by reading, and the laws above it.
 use mathlib.Core.Path.{_≡_, refl, sym, ap, _∙_}
-use mathlib.Core.Bool.{Bool, true, false, not, cond, _&&_}
+use mathlib.Core.Bool.{Bool, true, false, not, cond}
 use mathlib.Core.List.{List, [], _∷_, _++_, map}
-use Prim.Native.Nat.{ℕ, _+_, _%_, _≤_, _<_}
+use Prim.Native.Nat.{ℕ, _+_, _≤_, _<_}
 use native.Mathlib.Omega.{arith}
-use lib.Dec.{eqb}
 use lib.ListN.{length, take, drop, getD, length-map, length-append, length-take, take-append-drop}
 use mir.Val.{boolByte}
+use Rattle.std.specs.declared.option.Option.the-variants.{Some, None}
 use Rattle.std.specs.shelf.Lists.{kept-by, countBy}
 use Rattle.std.proofs.shelf.Lists.{map-append, take-all}
 use Rattle.std.proofs.shelf.Elements.{kept-by-append, kept-by-more}
 use Rattle.std.proofs.shelf.Sums.{length-kept-by, countBy-le-length, sumBy-cons, sumBy-more}
 use Rattle.std.proofs.shelf.Ways.{tells}
-use Rattle.lanes.specs.Readings.{dataByte, good, tag, isOf}
+use Rattle.lanes.specs.Readings.{dataByte, good, tag, names, isOf}
 use Rattle.lanes.specs.Lanes.{lane, untagged, Joins, Adds-up}
 
 pub joins : Joins
@@ -68,7 +68,7 @@ pub size-cons : (p r : ℕ) (rs : List ℕ) → length (lane p (r ∷ rs)) ≡ l
 size-cons p r rs = omega (arith, lane-size p (r ∷ rs), lane-size p rs, sumBy-cons (λ r. cond (isOf p r) 1 0) r rs, bits (isOf p r))
 
 -- a reading counts once: in one of the four lanes, or as untagged
-one-place : (g : Bool) (t : ℕ) → t < 4 → boolByte (g && eqb t 0) + boolByte (g && eqb t 1) + boolByte (g && eqb t 2) + boolByte (g && eqb t 3) + cond (not g) 1 0 ≡ 1
+one-place : (g : Bool) (t : ℕ) → t < 4 → boolByte (names 0 (cond g (Some t) None)) + boolByte (names 1 (cond g (Some t) None)) + boolByte (names 2 (cond g (Some t) None)) + boolByte (names 3 (cond g (Some t) None)) + cond (not g) 1 0 ≡ 1
 one-place true t h = grind (arith, tells)
 one-place false t h = refl
 

@@ -1,7 +1,7 @@
 -- Lanes: what each port said, from the readings of all.
 --   lane p rs       the data bytes of the readings of port p, in their order
 --   untagged rs     how many readings belong to no port
---   faults rs       how many had OBF, AUX and Error all set
+--   errors rs       how many had OBF, AUX and Error all set
 use mathlib.Core.Path.{_≡_}
 use mathlib.Core.Bool.{not}
 use mathlib.Core.List.{List, map, _++_}
@@ -15,7 +15,7 @@ use Rattle.ps2.specs.declared.refusal.Refusal.{Refusal}
 use Rattle.ps2.specs.declared.refusal.Refusal.the-variants.{NoSuchLine, TooManyReadings, BufferTooShort}
 use Rattle.ps2.specs.Refusals.{refusing}
 use Rattle.lanes.specs.declared.lane.Untagged.{Untagged}
-use Rattle.lanes.specs.Readings.{dataByte, good, fault, isOf}
+use Rattle.lanes.specs.Readings.{dataByte, good, auxError, isOf}
 
 unfoldable pub lane : ℕ → List ℕ → List ℕ
 lane p rs = map dataByte (kept-by (isOf p) rs)
@@ -23,8 +23,8 @@ lane p rs = map dataByte (kept-by (isOf p) rs)
 unfoldable pub untagged : List ℕ → ℕ
 untagged rs = countBy (λ r. not (good r)) rs
 
-unfoldable pub faults : List ℕ → ℕ
-faults rs = countBy fault rs
+unfoldable pub errors : List ℕ → ℕ
+errors rs = countBy auxError rs
 
 -- what the size of a lane is answered with
 abbrev pub sizeAnswer : List ℕ → ℕ → Result ℕ Refusal
@@ -41,12 +41,12 @@ filled (Err e) bytes old = old
 
 -- what counting the untagged readings is answered with
 abbrev pub untaggedAnswer : List ℕ → Result Untagged Refusal
-untaggedAnswer rs = refusing (ltb 32768 (length rs)) TooManyReadings (Ok (record { total = untagged rs; faults = faults rs }))
+untaggedAnswer rs = refusing (ltb 32768 (length rs)) TooManyReadings (Ok (record { total = untagged rs; errors = errors rs }))
 
 -- the lane of two lists joined is their lanes joined
 abbrev pub Joins : Type 0
 Joins = (p : ℕ) (xs ys : List ℕ) → lane p (xs ++ ys) ≡ lane p xs ++ lane p ys
 
--- every reading is in one of the four lanes or untagged
+-- the sizes of the four lanes and the number of untagged readings add up to the number of readings
 abbrev pub Adds-up : List ℕ → Type 0
 Adds-up rs = length (lane 0 rs) + length (lane 1 rs) + length (lane 2 rs) + length (lane 3 rs) + untagged rs ≡ length rs

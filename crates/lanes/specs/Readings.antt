@@ -2,12 +2,12 @@
 --   status r, dataByte r   the two bytes
 --   full, aux, error       the status bits OBF (0), AUX (5) and Error (2)
 --   tag r                  the port number in status bits 7 and 6
---   good r                 a good byte of an AUX port: OBF and AUX set, Error clear
---   fault r                OBF, AUX and Error all set: no good byte, so no port
+--   good r                 a good byte of a port: OBF and AUX set, Error clear
+--   auxError r             OBF, AUX and Error all set: an AUX byte that belongs to no port
 --   portOf r               the port that a reading belongs to, if it belongs to one
---   isOf p r               whether that is p
+--   isOf p r               whether that port is p
 use mathlib.Core.Path.{_≡_}
-use mathlib.Core.Bool.{Bool, true, not, cond, _&&_}
+use mathlib.Core.Bool.{Bool, true, false, not, cond, _&&_}
 use Prim.Native.Nat.{ℕ, _/_, _%_, _^_}
 use lib.Dec.{eqb}
 use Rattle.std.specs.declared.option.Option.{Option}
@@ -37,14 +37,18 @@ tag r = status r / 64 % 4
 abbrev pub good : ℕ → Bool
 good r = full r && (aux r && not (error r))
 
-abbrev pub fault : ℕ → Bool
-fault r = full r && (aux r && error r)
+abbrev pub auxError : ℕ → Bool
+auxError r = full r && (aux r && error r)
 
 abbrev pub portOf : ℕ → Option ℕ
 portOf r = cond (good r) (Some (tag r)) None
 
+abbrev pub names : ℕ → Option ℕ → Bool
+names p None = false
+names p (Some q) = eqb q p
+
 abbrev pub isOf : ℕ → ℕ → Bool
-isOf p r = good r && eqb (tag r) p
+isOf p r = names p (portOf r)
 
 -- no reading has two ports
 abbrev pub One-port : ℕ → Type 0

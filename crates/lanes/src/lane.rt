@@ -5,9 +5,9 @@ ghost use mathlib.Core.List.{_++_};
 ghost use Prim.Native.Nat.{_≤_};
 ghost use lib.ListN.{length, drop};
 ghost use Rattle.lanes.specs.Readings.{good, isOf};
-ghost use Rattle.lanes.specs.Lanes.{lane, untagged, faults, sizeAnswer, fillAnswer, filled, untaggedAnswer, Joins, Adds-up};
+ghost use Rattle.lanes.specs.Lanes.{lane, untagged, errors, sizeAnswer, fillAnswer, filled, untaggedAnswer, Joins, Adds-up};
 use crate::reading::data_of;
-use crate::reading::is_fault;
+use crate::reading::is_aux_error;
 use crate::reading::port_of;
 use ps2::refusal::Refusal;
 
@@ -15,11 +15,11 @@ const LAST_PORT: u8 = 3;
 
 const MOST_READINGS: usize = 32_768;
 
-// The readings that belong to no port: how many, and how many of them are faults.
+// The readings that belong to no port: how many, and how many of them are AUX bytes with Error set.
 #[derive(Clone, Copy, PartialEq, Eq, Debug)]
 pub struct Untagged {
     pub total: usize,
-    pub faults: usize,
+    pub errors: usize,
 }
 
 fn is_of(reading: u16, port: u8) -> bool
@@ -95,12 +95,12 @@ fn count_none(readings: &[u16]) -> usize
     total
 }
 
-fn count_faults(readings: &[u16]) -> usize
-    ensures { λ r. ⌜ r ≡ faults (now (readings .entry)) ⌝ }
+fn count_aux_errors(readings: &[u16]) -> usize
+    ensures { λ r. ⌜ r ≡ errors (now (readings .entry)) ⌝ }
 {
     let mut total = 0;
     for reading in readings {
-        total += is_fault(*reading) as usize;
+        total += is_aux_error(*reading) as usize;
     }
     total
 }
@@ -113,11 +113,11 @@ fn tally(readings: &[u16]) -> Result<Untagged, Refusal>
     }
     Ok(Untagged {
         total: count_none(readings),
-        faults: count_faults(readings),
+        errors: count_aux_errors(readings),
     })
 }
 
-// The readings that no lane has. Every reading is one of these or in one lane.
+// The readings that no lane has: their number and the sizes of the lanes add up.
 pub fn count_untagged(readings: &[u16]) -> Result<Untagged, Refusal>
     ensures value { λ r. ⌜ r ≡ untaggedAnswer (now (readings .entry)) ⌝ }
     ensures adds_up { λ _. ⌜ Adds-up (now (readings .entry)) ⌝ }

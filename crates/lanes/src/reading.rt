@@ -1,7 +1,7 @@
 // A reading: a status byte and the data byte read after it, as status * 256 + data.
 ghost use mathlib.Core.Path.{_≡_};
 ghost use Prim.Native.Nat.{_<_};
-ghost use Rattle.lanes.specs.Readings.{status, dataByte, bit, portOf, fault, One-port};
+ghost use Rattle.lanes.specs.Readings.{status, dataByte, bit, portOf, auxError, One-port};
 
 // Bits of the status byte, by number.
 const OUTPUT_FULL: u32 = 0;
@@ -46,8 +46,8 @@ pub fn port_of(reading: u16) -> Option<u8>
 }
 
 // Whether OBF, AUX and Error are all set: a fault in Multiplexed mode, or any AUX byte in Legacy mode.
-pub fn is_fault(reading: u16) -> bool
-    ensures { λ r. ⌜ r ≡ fault reading ⌝ }
+pub fn is_aux_error(reading: u16) -> bool
+    ensures { λ r. ⌜ r ≡ auxError reading ⌝ }
 {
     let status = status_of(reading);
     is_set(status, OUTPUT_FULL) && is_set(status, AUX) && is_set(status, ERROR)

@@ -37,14 +37,20 @@ cleared m = record { counters = still; buttons = m .buttons; reported = m .repor
 
 abbrev pub replied : Packet → Mouse → Mouse
 replied p m = record {
-  variant = m .variant; settings = m .settings; dialog = m .dialog; knock = m .knock;
+  variant = m .variant;
+  settings = m .settings;
+  dialog = m .dialog;
+  knock = m .knock;
   motion = cleared (m .motion);
   answer = record { acknowledges = true; packet = p; last = repeats p };
 }
 
 abbrev pub echoed : ℕ → Mouse → Mouse
 echoed b m = record {
-  variant = m .variant; settings = m .settings; dialog = m .dialog; knock = m .knock;
+  variant = m .variant;
+  settings = m .settings;
+  dialog = m .dialog;
+  knock = m .knock;
   motion = cleared (m .motion);
   answer = record { acknowledges = false; packet = One b; last = One b };
 }
@@ -59,7 +65,11 @@ recalled (Four a b c d) = Four a b c d
 
 abbrev pub resent : Mouse → Mouse
 resent m = record {
-  variant = m .variant; settings = m .settings; dialog = m .dialog; knock = m .knock; motion = m .motion;
+  variant = m .variant;
+  settings = m .settings;
+  dialog = m .dialog;
+  knock = m .knock;
+  motion = m .motion;
   answer = record { acknowledges = false; packet = recalled (m .answer .last); last = m .answer .last };
 }
 

@@ -32,7 +32,11 @@ countersMoved id c x y w = record { x = axisMoved (c .x) x; y = axisMoved (c .y)
 
 abbrev pub sampled : Mouse → ℤ → ℤ → ℤ → ℕ → Mouse
 sampled m x y w b = record {
-  variant = m .variant; settings = m .settings; dialog = m .dialog; knock = m .knock; answer = m .answer;
+  variant = m .variant;
+  settings = m .settings;
+  dialog = m .dialog;
+  knock = m .knock;
+  answer = m .answer;
   motion = record { counters = countersMoved (m .knock .id) (m .motion .counters) x y w; buttons = b; reported = m .motion .reported };
 }
 
@@ -67,7 +71,10 @@ streamPacket m = movementPacket (m .knock .id) (shownCounters (m .settings .doub
 
 abbrev pub queued : Mouse → Mouse
 queued m = record {
-  variant = m .variant; settings = m .settings; dialog = m .dialog; knock = m .knock;
+  variant = m .variant;
+  settings = m .settings;
+  dialog = m .dialog;
+  knock = m .knock;
   motion = record { counters = still; buttons = m .motion .buttons; reported = shownButtons (m .knock .id) (m .motion .buttons) };
   answer = record { acknowledges = false; packet = streamPacket m; last = streamPacket m };
 }

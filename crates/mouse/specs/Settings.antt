@@ -4,7 +4,7 @@
 --   listedRate r       whether a sample rate is one of the seven
 --   knocked v k r      identity and last three rates after one rate more: 200, 100, 80 makes a wheel model
 --                      ID 3, and 200, 200, 80 ID 4
-use mathlib.Core.Bool.{Bool, true, false, cond, _&&_, _||_}
+use mathlib.Core.Bool.{Bool, false, cond, _&&_, _||_}
 use Prim.Native.Nat.{ℕ}
 use lib.Dec.{eqb}
 use Rattle.mouse.specs.declared.settings.Variant.{Variant}

@@ -1,5 +1,5 @@
 -- Refusals: what each one is called, numbered and means.
---   numberOf e       its number, by which transcripts show it
+--   numberOf e       its number, by which programs show it
 --   meaningOf e      its meaning, in the words that are printed
 --   refusing t e r   refused with e where t holds, else r; nested so that the smaller number comes first
 use mathlib.Core.Bool.{Bool, true, false}
@@ -7,7 +7,7 @@ use mathlib.Core.List.{List}
 use Prim.Native.Nat.{ℕ}
 use lib.Chars.{codes}
 use Rattle.std.specs.declared.result.Result.{Result}
-use Rattle.std.specs.declared.result.Result.the-variants.{Ok, Err}
+use Rattle.std.specs.declared.result.Result.the-variants.{Err}
 use Rattle.ps2.specs.declared.refusal.Refusal.{Refusal}
 use Rattle.ps2.specs.declared.refusal.Refusal.the-variants.{UnknownCommand, NoSuchLine, FieldOutOfRange, FileEndsInside, BadRecord, TooManyReadings, BufferTooShort, FileTooLong, OutputEmpty, InputFull, PrefixInLegacy, NoRoom}
 

@@ -6,14 +6,13 @@ use native.Mathlib.Omega.{arith}
 use lib.ListN.{length, length-append}
 use Rattle.std.specs.declared.option.Option.{Option}
 use Rattle.std.specs.declared.option.Option.the-variants.{Some, None}
-use Rattle.std.specs.declared.result.Result.{Result}
 use Rattle.std.specs.declared.result.Result.the-variants.{Ok, Err}
 use Rattle.std.specs.shelf.Lists.{joined}
 use Rattle.std.proofs.shelf.Lists.{joined-more}
 use Rattle.ps2.specs.declared.refusal.Refusal.{Refusal}
 use Rattle.session.specs.declared.reader.Reader.{Reader}
 use Rattle.session.specs.Records.{Item, bytesOf}
-use Rattle.session.specs.Files.{Session, Ending, complete, refused, session, sessionBy, answeredBy, tail}
+use Rattle.session.specs.Files.{Ending, complete, refused, session, sessionBy, answeredBy, tail}
 use Rattle.session.specs.Readers.{fileOf, leftOf, Handed, AtStart, Opened, Step, Keeps}
 use Rattle.report.specs.Explained.{line, endLine, lines, linesOf}
 

@@ -10,7 +10,7 @@ use lib.Chars.{codes}
 use lib.ListN.{length, getD}
 use Rattle.std.specs.Written.{decimal}
 use Rattle.ps2.specs.declared.refusal.Refusal.the-variants.{TooManyReadings}
-use Rattle.lanes.specs.Lanes.{lane, untagged, faults}
+use Rattle.lanes.specs.Lanes.{lane, untagged, errors}
 use Rattle.text.specs.Hex.{spaced}
 use Rattle.report.specs.declared.failure.Failure.{Failure}
 use Rattle.report.specs.declared.failure.Failure.the-variants.{Refused, OutOfMemory}
@@ -32,7 +32,7 @@ abbrev pub untaggedText : ℕ → ℕ → List ℕ
 untaggedText total faulty = codes "none (" ++ (decimal total ++ (codes "): " ++ (decimal faulty ++ codes " with OBF, AUX and Error all set\n")))
 
 abbrev pub demuxed : List ℕ → List ℕ
-demuxed rs = laneLines rs 4 ++ untaggedText (untagged rs) (faults rs)
+demuxed rs = laneLines rs 4 ++ untaggedText (untagged rs) (errors rs)
 
 -- the text of up to 32,768 readings
 abbrev pub Done : List ℕ → List ℕ → Type 0

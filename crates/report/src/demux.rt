@@ -55,13 +55,13 @@ fn write_lane(text: &mut String, port: u8, bytes: &[u8]) -> fmt::Result
 }
 
 fn write_untagged(text: &mut String, none: Untagged) -> fmt::Result
-    ensures { λ r. ⌜ made r (λ _. string-bytes (now (text .exit)) ≡ string-bytes (now (text .entry)) ++ untaggedText (none .total) (none .faults)) ⌝ }
+    ensures { λ r. ⌜ made r (λ _. string-bytes (now (text .exit)) ≡ string-bytes (now (text .entry)) ++ untaggedText (none .total) (none .errors)) ⌝ }
 {
     let total = none.total;
-    let faults = none.faults;
+    let errors = none.errors;
     write!(
         text,
-        "none ({total}): {faults} with OBF, AUX and Error all set\n"
+        "none ({total}): {errors} with OBF, AUX and Error all set\n"
     )
 }
 

@@ -50,7 +50,7 @@ pub impl From<AllocError> for Failure as FromAllocError {
     ghost converts = { λ _ r. r ≡ OutOfMemory };
 
     fn from(_: AllocError) -> Failure {
-        Failure::OutOfMemory
+        Self::OutOfMemory
     }
 }
 

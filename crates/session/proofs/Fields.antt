@@ -3,7 +3,7 @@ use mathlib.Core.Path.{_≡_, refl, sym, ap, subst, _∙_}
 use mathlib.Core.Bool.{Bool, true, false, cond, _&&_}
 use mathlib.Core.List.{List, [], _∷_, _++_, append-nil}
 use mathlib.Core.Logic.{_⊎_, inl, inr}
-use Prim.Native.Nat.{ℕ, zero, suc, _+_, _-_, _*_, _/_, _%_, _^_, _≤_, _<_}
+use Prim.Native.Nat.{ℕ, zero, suc, _+_, _-_, _/_, _%_, _≤_, _<_}
 use native.Mathlib.Nat.{add-zero}
 use native.Mathlib.Numerals.{add-one}
 use native.Mathlib.Omega.{arith}
@@ -13,7 +13,7 @@ use mir.Syntax.{w8, w16}
 use mir.Val.{toZ, ofZ}
 use Rattle.std.specs.declared.result.Result.{Result}
 use Rattle.std.specs.declared.result.Result.the-variants.{Ok, Err}
-use Rattle.std.proofs.shelf.Lists.{drop-more, drop-all, take-all, length-take-le, drop-drop, getD-take, getD-drop, getD-past}
+use Rattle.std.proofs.shelf.Lists.{drop-more, drop-all, length-take-le, drop-drop, getD-take, getD-drop, getD-past}
 use Rattle.std.proofs.shelf.Signed.{ofZ-toZ}
 use Rattle.std.proofs.shelf.Tests.{cond-both, and-parts, eqb-true, leb-true, ltb-false, cases-lt}
 use Rattle.ps2.specs.declared.refusal.Refusal.{Refusal}

@@ -13,8 +13,8 @@ use Rattle.std.proofs.shelf.Lists.{nil-from-length, joined-more, drop-at}
 use Rattle.ps2.specs.declared.refusal.Refusal.{Refusal}
 use Rattle.session.specs.declared.reader.Reader.{Reader}
 use Rattle.session.specs.Records.{Item, bytesOf, word}
-use Rattle.session.specs.Files.{first, Session, onward, within, session, complete, refused, answered, behind}
-use Rattle.session.specs.Readers.{fileOf, leftOf, Handed, Advanced, Step, Keeps}
+use Rattle.session.specs.Files.{first, onward, within, session, complete, refused, answered, behind}
+use Rattle.session.specs.Readers.{fileOf, leftOf, Advanced, Step, Keeps}
 
 within-same : (n m : ℕ) (bs : List ℕ) → length bs ≤ n → length bs ≤ m → within n bs ≡ within m bs
 unfolding within

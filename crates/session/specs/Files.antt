@@ -88,6 +88,6 @@ tail (i ∷ is) = is
 abbrev pub behind : Session → Session
 behind s = record { records = tail (s .records); ending = s .ending }
 
--- every list of valid records can be read back from the file that joins them
+-- every list of valid records is read back from the bytes that spell them
 abbrev pub Reads-back : Type 0
 Reads-back = (is : List Item) → All Valid is → session (joined bytesOf is) ≡ record { records = is; ending = complete }

@@ -4,7 +4,7 @@
 --   kindOf i         its kind's number
 --   payloadOf i      its fields as bytes, low byte first, signed ones in two's complement
 --   bytesOf i        the record in a file: payload length, kind, payload
---   Valid i          whether a file can hold it
+--   Valid i          whether its signed fields and its stroke fit their places
 --   said k bs        what a payload bs of kind k says; refused if there is no such kind, or not of that length
 use mathlib.Core.Bool.{Bool, cond, _&&_}
 use mathlib.Core.List.{List, [], _∷_, _++_}
@@ -69,7 +69,7 @@ payloadOf (cable l a) = l ∷ a ∷ []
 abbrev pub bytesOf : Item → List ℕ
 bytesOf i = pair (length (payloadOf i)) ++ (pair (kindOf i) ++ payloadOf i)
 
--- a record that a file can hold: numbers of 16 and 8 bits with their sign, a stroke of 1 to 16 bytes
+-- what a record needs to be spelt in bytes: signed numbers fit 16 and 8 bits, a stroke has 1 to 16 bytes
 abbrev pub Valid : Item → Type 0
 Valid (commandWrite b) = Unit {0}
 Valid (dataWrite b) = Unit {0}

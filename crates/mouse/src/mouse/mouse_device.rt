@@ -44,8 +44,7 @@ pub impl Device for Mouse as MouseDevice {
             dy,
             wheel,
             buttons,
-        } = event
-        {
+        } = event {
             self.shift(dx, dy, wheel, buttons);
         }
         Ok(())
