@@ -7,3 +7,4 @@ pub mod Mice
 pub mod Hearing
 pub mod Moving
 pub mod MouseKind
+pub mod MouseLaws

@@ -1,6 +1,7 @@
 // A PS/2 mouse: what it keeps, and what becomes of it.
 ghost use mathlib.Core.Path.{_≡_};
 ghost use Rattle.mouse.specs.Mice.{began};
+ghost use Rattle.mouse.specs.MouseLaws.{Laws};
 ghost use mathlib.Core.Bool.{false};
 use crate::counters::Axis;
 use crate::counters::Counters;
@@ -70,7 +71,8 @@ const SELF_TEST_PASSED: Packet = Packet::Two(0xAA, 0x00);
 impl Mouse {
     // A mouse that was just powered up.
     pub fn new(variant: Variant) -> Mouse
-        ensures { λ r. ⌜ r ≡ began variant false ⌝ }
+        ensures value { λ r. ⌜ r ≡ began variant false ⌝ }
+        ensures laws { λ _. ⌜ Laws ⌝ }
     {
         begun(variant, false)
     }
