@@ -4,5 +4,7 @@ mod device_cases;
 #[cfg(test)]
 mod lanes_cases;
 #[cfg(test)]
+mod mouse_cases;
+#[cfg(test)]
 mod session_cases;
 pub mod silent;

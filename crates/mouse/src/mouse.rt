@@ -15,6 +15,8 @@ mod hearing;
 mod mouse_device;
 mod moving;
 
+pub use mouse_device::MouseDevice;
+
 #[derive(Clone, Copy)]
 enum Awaited {
     Nothing,
