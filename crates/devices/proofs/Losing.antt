@@ -5,10 +5,11 @@ use mathlib.Core.List.{List, [], _∷_, _++_, append-assoc}
 use Prim.Native.Nat.{ℕ, _+_}
 use native.Mathlib.Omega.{arith}
 use Rattle.std.proofs.shelf.Tests.{not-true}
+use Rattle.ps2.specs.Entries.{ahead}
 use Rattle.ps2.specs.Events.{movement, stroke, pull, plug}
 use Rattle.ps2.specs.Kinds.{first, chosen}
 use Rattle.ps2.specs.Runs.{Call, gives, receives, happens, Ran, begun, giving, receiving, happening}
-use Rattle.devices.specs.Boards.{BoardValue, boardWaiting, boardGiven, boardHappened, boardKind}
+use Rattle.devices.specs.Boards.{BoardValue, boardGiven, boardHappened, boardKind}
 use Rattle.devices.specs.Queues.{fits}
 use Rattle.devices.specs.BoardRuns.{owed, strokesIn, strokesOut, taken, acknowledged, Loses-nothing}
 
@@ -18,7 +19,7 @@ record Keeps (h : List Call) (a : Bool) (bs : List ℕ) : Type 0 where
   strokes : strokesOut h ++ bs ≡ strokesIn h
   acknowledges : acknowledged h + cond a 1 0 ≡ taken h
 
-gave : (h : List Call) (a : Bool) (bs : List ℕ) → Keeps h a bs → Keeps (gives (first (boardWaiting a bs)) ∷ h) (boardGiven a bs .acknowledges) (boardGiven a bs .strokes)
+gave : (h : List Call) (a : Bool) (bs : List ℕ) → Keeps h a bs → Keeps (gives (first (ahead a bs)) ∷ h) (boardGiven a bs .acknowledges) (boardGiven a bs .strokes)
 gave h true bs k = record {
   awaits = refl;
   strokes = rw (sym (k .awaits)) (k .strokes);

@@ -7,8 +7,7 @@ use mathlib.Core.Path.{_≡_, refl}
 use mathlib.Core.Bool.{Bool, true, false, not}
 use mathlib.Core.List.{List, [], _∷_, _++_}
 use Prim.Native.Nat.{ℕ}
-use Rattle.ps2.specs.declared.entry.Entry.{Entry}
-use Rattle.ps2.specs.declared.entry.Entry.the-variants.{Byte}
+use Rattle.ps2.specs.Entries.{ahead}
 use Rattle.ps2.specs.Events.{Happening, movement, stroke, pull, plug}
 use Rattle.ps2.specs.Kinds.{Kind, Model, rest}
 use Rattle.devices.specs.declared.board.Board.{Board}
@@ -20,15 +19,6 @@ pub record BoardValue : Type 0 where
 
 abbrev pub blank : BoardValue
 blank = record { acknowledges = false; strokes = [] }
-
-abbrev pub entries : List ℕ → List Entry
-entries [] = []
-entries (b ∷ bs) = Byte b ∷ entries bs
-
--- the acknowledge goes first
-abbrev pub boardWaiting : Bool → List ℕ → List Entry
-boardWaiting true bs = Byte 0xFA ∷ entries bs
-boardWaiting false bs = entries bs
 
 abbrev pub boardGiven : Bool → List ℕ → BoardValue
 boardGiven true bs = record { acknowledges = false; strokes = bs }
@@ -46,12 +36,12 @@ boardHappened v (stroke bs) = record { acknowledges = v .acknowledges; strokes =
 boardHappened v pull = v
 boardHappened v plug = v
 
-pub given-rest : (a : Bool) (bs : List ℕ) → boardWaiting (boardGiven a bs .acknowledges) (boardGiven a bs .strokes) ≡ rest (boardWaiting a bs)
+pub given-rest : (a : Bool) (bs : List ℕ) → ahead (boardGiven a bs .acknowledges) (boardGiven a bs .strokes) ≡ rest (ahead a bs)
 given-rest true bs = refl
 given-rest false [] = refl
 given-rest false (b ∷ bs) = refl
 
-pub given-none : (a : Bool) (bs : List ℕ) → boardWaiting a bs ≡ [] → boardGiven a bs ≡ record { acknowledges = a; strokes = bs }
+pub given-none : (a : Bool) (bs : List ℕ) → ahead a bs ≡ [] → boardGiven a bs ≡ record { acknowledges = a; strokes = bs }
 given-none true bs e = cc
 given-none false [] e = refl
 given-none false (b ∷ bs) e = cc
@@ -59,7 +49,7 @@ given-none false (b ∷ bs) e = cc
 abbrev pub boardKind : Kind
 boardKind = record {
   Value = BoardValue;
-  waiting = λ v. boardWaiting (v .acknowledges) (v .strokes);
+  waiting = λ v. ahead (v .acknowledges) (v .strokes);
   takes = λ v b. not (v .acknowledges);
   room = boardRoom;
   powered = λ v. blank;

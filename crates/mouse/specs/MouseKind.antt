@@ -3,11 +3,11 @@
 --   mouseKind         every host byte is taken, every event has room; only movements matter
 use mathlib.Core.Path.{_≡_, refl, ap}
 use mathlib.Core.Bool.{Bool, true, false, cond}
-use mathlib.Core.List.{List, [], _∷_}
+use mathlib.Core.List.{List, []}
 use Prim.Native.Nat.{ℕ}
 use lib.Dec.{eqb}
 use Rattle.ps2.specs.declared.entry.Entry.{Entry}
-use Rattle.ps2.specs.declared.entry.Entry.the-variants.{Byte}
+use Rattle.ps2.specs.Entries.{ahead}
 use Rattle.ps2.specs.Events.{Happening, movement, stroke, pull, plug}
 use Rattle.ps2.specs.Kinds.{Kind, Model, nonempty, rest}
 use Rattle.mouse.specs.declared.packet.Packet.{Packet}
@@ -24,13 +24,8 @@ use Rattle.mouse.specs.Commands.{commandOf}
 use Rattle.mouse.specs.Hearing.{replied, echoed, recalled, withDialog, commanded, heardIn, heard}
 use Rattle.mouse.specs.Moving.{moved}
 
-abbrev pub entries : List ℕ → List Entry
-entries [] = []
-entries (b ∷ bs) = Byte b ∷ entries bs
-
 abbrev pub answerWaiting : Bool → Packet → List Entry
-answerWaiting true p = Byte 0xFA ∷ entries (bytesOf p)
-answerWaiting false p = entries (bytesOf p)
+answerWaiting a p = ahead a (bytesOf p)
 
 abbrev pub answerGiven : Bool → Packet → Packet → Answer
 answerGiven true p l = record { acknowledges = false; packet = p; last = l }

@@ -57,6 +57,8 @@ pub struct Mouse {
     answer: Answer,
 }
 
+const ACKNOWLEDGE: u8 = 0xFA;
+
 const STILL: Axis = Axis {
     count: 0,
     overflow: false,

@@ -1,6 +1,7 @@
 // What the mouse makes of a byte from the host.
 ghost use mathlib.Core.Path.{_≡_};
 ghost use Rattle.mouse.specs.Hearing.{replied, echoed, resent, dataRead, commanded, rated, resolved, argued, wrappedHeard, heardIn, heard};
+use super::ACKNOWLEDGE;
 use super::Answer;
 use super::Awaited;
 use super::Mouse;
@@ -19,8 +20,6 @@ use crate::settings::is_rate;
 const RESET: u8 = 0xFF;
 
 const RESET_WRAP: u8 = 0xEC;
-
-const ACKNOWLEDGE: u8 = 0xFA;
 
 impl Mouse {
     // An acknowledge, then a packet. Counters are reset.

@@ -1,6 +1,7 @@
 // The mouse as a device.
 ghost use mathlib.Core.Path.{_≡_};
 ghost use Rattle.mouse.specs.MouseKind.{mouseModel};
+use super::ACKNOWLEDGE;
 use super::Mouse;
 use super::begun;
 use ps2::device::Device;
@@ -8,8 +9,6 @@ use ps2::entry::Entry;
 use ps2::event::Event;
 use ps2::refusal::Refusal;
 use std::mem;
-
-const ACKNOWLEDGE: u8 = 0xFA;
 
 pub impl Device for Mouse as MouseDevice {
     ghost model = { mouseModel };
