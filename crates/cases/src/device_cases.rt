@@ -5,6 +5,7 @@ use devices::board::Board;
 use devices::board::BoardDevice;
 use devices::cable::Cable;
 use devices::cable::CableDevice;
+use mouse::mouse::Mouse;
 use ps2::device::Device;
 use ps2::entry::Entry;
 use ps2::entry::EntryDebug;
@@ -13,6 +14,7 @@ use ps2::event::Event;
 use ps2::refusal::Refusal;
 use ps2::refusal::RefusalDebug;
 use ps2::refusal::RefusalPartialEq;
+use std::mem::size_of;
 use std::test::*;
 
 const ACKNOWLEDGE: Entry = Entry::Byte(0xFA);
@@ -124,4 +126,11 @@ fn silence_is_lawful() -> Result<(), Fail> {
     check(!silent.receive(0xF4))?;
     check_eq(silent.event(stroke(&[1; 17])), Ok(()))?;
     check_eq(silent.give(), None)
+}
+
+#[test]
+fn memory() -> Result<(), Fail> {
+    check(size_of::<Board>() <= 32)?;
+    check(size_of::<Cable<Board>>() <= 40)?;
+    check(size_of::<Mouse>() <= 64)
 }

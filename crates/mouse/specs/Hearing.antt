@@ -1,7 +1,7 @@
 -- Hearing: what a mouse makes of a byte from the host.
 --   replied p m       an FAh, then a packet; counters are reset; a Resend repeats the packet, or the FAh alone
 --   echoed b m        the byte alone; counters are reset
---   resent m          the last packet again; nothing else changes
+--   resent m          the last packet again, or AAh 00h if there is none; nothing else changes
 --   commanded c m     the answer to a command
 --   heard m b         the answer to a byte: FFh is a Reset everywhere; else in Wrap mode all but ECh is echoed;
 --                     else it is the argument awaited, or a command
@@ -9,7 +9,7 @@ use mathlib.Core.Bool.{Bool, true, false, cond}
 use Prim.Native.Nat.{ℕ}
 use lib.Dec.{eqb, leb}
 use Rattle.mouse.specs.declared.packet.Packet.{Packet}
-use Rattle.mouse.specs.declared.packet.Packet.the-variants.{Empty, One, Two, Three, Four}
+use Rattle.mouse.specs.declared.packet.Packet.the-variants.{Empty, One, Two}
 use Rattle.mouse.specs.declared.mouse.Mouse.{Mouse}
 use Rattle.mouse.specs.declared.mouse.Motion.{Motion}
 use Rattle.mouse.specs.declared.mouse.Awaited.{Awaited}
@@ -20,17 +20,10 @@ use Rattle.mouse.specs.declared.settings.Settings.{Settings}
 use Rattle.mouse.specs.declared.settings.Knock.{Knock}
 use Rattle.mouse.specs.declared.settings.Mode.the-variants.{Stream, Remote}
 use Rattle.mouse.specs.Settings.{idOf, defaults, listedRate, knocked, modeTo, reportingTo, doubledTo, resolutionTo, rateTo}
+use Rattle.mouse.specs.Packets.{orElse}
 use Rattle.mouse.specs.Reports.{shownButtons, movementPacket, statusPacket}
 use Rattle.mouse.specs.Commands.{commandOf}
 use Rattle.mouse.specs.Mice.{still, began}
-
--- what a Resend repeats after an answer with packet p: never an FAh before a packet
-abbrev pub repeats : Packet → Packet
-repeats Empty = One 0xFA
-repeats (One a) = One a
-repeats (Two a b) = Two a b
-repeats (Three a b c) = Three a b c
-repeats (Four a b c d) = Four a b c d
 
 abbrev pub cleared : Motion → Motion
 cleared m = record { counters = still; buttons = m .buttons; reported = m .reported }
@@ -42,7 +35,7 @@ replied p m = record {
   dialog = m .dialog;
   knock = m .knock;
   motion = cleared (m .motion);
-  answer = record { acknowledges = true; packet = p; last = repeats p };
+  answer = record { acknowledges = true; packet = p; last = orElse p (One 0xFA) };
 }
 
 abbrev pub echoed : ℕ → Mouse → Mouse
@@ -55,14 +48,6 @@ echoed b m = record {
   answer = record { acknowledges = false; packet = One b; last = One b };
 }
 
--- where no packet was queued yet, AAh 00h
-abbrev pub recalled : Packet → Packet
-recalled Empty = Two 0xAA 0
-recalled (One a) = One a
-recalled (Two a b) = Two a b
-recalled (Three a b c) = Three a b c
-recalled (Four a b c d) = Four a b c d
-
 abbrev pub resent : Mouse → Mouse
 resent m = record {
   variant = m .variant;
@@ -70,7 +55,7 @@ resent m = record {
   dialog = m .dialog;
   knock = m .knock;
   motion = m .motion;
-  answer = record { acknowledges = false; packet = recalled (m .answer .last); last = m .answer .last };
+  answer = record { acknowledges = false; packet = orElse (m .answer .last) (Two 0xAA 0); last = m .answer .last };
 }
 
 -- a mouse with one part changed

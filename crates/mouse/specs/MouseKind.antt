@@ -14,14 +14,14 @@ use Rattle.mouse.specs.declared.packet.Packet.{Packet}
 use Rattle.mouse.specs.declared.packet.Packet.the-variants.{Empty, One, Two, Three, Four}
 use Rattle.mouse.specs.declared.mouse.Mouse.{Mouse}
 use Rattle.mouse.specs.declared.mouse.Answer.{Answer}
-use Rattle.mouse.specs.Packets.{bytesOf, behind}
+use Rattle.mouse.specs.Packets.{bytesOf, behind, orElse}
 use Rattle.mouse.specs.Mice.{began}
 use Rattle.mouse.specs.declared.mouse.Awaited.{Awaited}
 use Rattle.mouse.specs.declared.mouse.Awaited.the-variants.{Nothing, Rate, Resolution}
 use Rattle.mouse.specs.declared.command.Command.{Command}
 use Rattle.mouse.specs.declared.command.Command.the-variants.{Scale1To1, Scale2To1, SetResolution, StatusRequest, SetStream, ReadData, ResetWrap, SetWrap, SetRemote, GetId, SetRate, Enable, Disable, SetDefaults, Resend, Unlisted}
 use Rattle.mouse.specs.Commands.{commandOf}
-use Rattle.mouse.specs.Hearing.{replied, echoed, recalled, withDialog, commanded, heardIn, heard}
+use Rattle.mouse.specs.Hearing.{replied, echoed, withDialog, commanded, heardIn, heard}
 use Rattle.mouse.specs.Moving.{moved}
 
 abbrev pub answerWaiting : Bool → Packet → List Entry
@@ -66,7 +66,7 @@ given-none false (Four a b c d) l e = cc
 pub replied-waits : (p : Packet) (m : Mouse) → nonempty (mouseWaiting (replied p m)) ≡ true
 replied-waits p m = refl
 
-pub resent-waits : (m : Mouse) (l : Packet) → nonempty (answerWaiting false (recalled l)) ≡ true
+pub resent-waits : (m : Mouse) (l : Packet) → nonempty (answerWaiting false (orElse l (Two 0xAA 0))) ≡ true
 resent-waits m Empty = refl
 resent-waits m (One a) = refl
 resent-waits m (Two a b) = refl

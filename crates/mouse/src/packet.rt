@@ -2,7 +2,7 @@
 ghost use mathlib.Core.Path.{_≡_};
 ghost use mathlib.Core.Bool.{not};
 ghost use Rattle.ps2.specs.Kinds.{nonempty, first};
-ghost use Rattle.mouse.specs.Packets.{bytesOf, behind};
+ghost use Rattle.mouse.specs.Packets.{bytesOf, behind, orElse};
 
 #[derive(Clone, Copy)]
 pub(crate) enum Packet {
@@ -20,6 +20,16 @@ impl Packet {
         match self {
             Packet::Empty => true,
             _ => false,
+        }
+    }
+
+    // This packet, or the other where it is empty.
+    pub(crate) fn or(self, other: Packet) -> Packet
+        ensures { λ r. ⌜ r ≡ orElse self other ⌝ }
+    {
+        match self {
+            Packet::Empty => other,
+            _ => self,
         }
     }
 

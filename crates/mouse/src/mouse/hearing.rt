@@ -26,15 +26,12 @@ impl Mouse {
     fn reply(&mut self, packet: Packet)
         ensures { λ _. ⌜ now (self .exit) ≡ replied packet (now (self .entry)) ⌝ }
     {
-        let last = match packet {
-            Packet::Empty => Packet::One(ACKNOWLEDGE),
-            _ => packet,
-        };
         self.motion.counters = NO_MOVEMENT;
         self.answer = Answer {
             acknowledges: true,
             packet,
-            last,
+            // a Resend repeats the packet without the acknowledge, or the acknowledge alone
+            last: packet.or(Packet::One(ACKNOWLEDGE)),
         };
     }
 
@@ -54,10 +51,7 @@ impl Mouse {
         ensures { λ _. ⌜ now (self .exit) ≡ resent (now (self .entry)) ⌝ }
     {
         self.answer.acknowledges = false;
-        self.answer.packet = match self.answer.last {
-            Packet::Empty => SELF_TEST_PASSED,
-            last => last,
-        };
+        self.answer.packet = self.answer.last.or(SELF_TEST_PASSED);
     }
 
     fn read_data(&mut self)
