@@ -251,6 +251,13 @@ fn resends() -> Result<(), Fail> {
         (0xFE, b"\xfa"),
     ];
     hears(&mut mouse, &wrapped)?;
-    moves(&mut mouse, 0, 0, 0, 7);
-    hears(&mut mouse, &[(0xE9, b"\xfa\x07\x02\x64")])
+    moves(&mut mouse, 0, 0, 0, 1);
+    let status: [Exchange; 5] = [
+        (0xE9, b"\xfa\x04\x02\x64"),
+        (0xF0, b"\xfa"),
+        (0xF4, b"\xfa"),
+        (0xE7, b"\xfa"),
+        (0xE9, b"\xfa\x74\x02\x64"),
+    ];
+    hears(&mut mouse, &status)
 }
