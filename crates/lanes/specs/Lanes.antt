@@ -26,13 +26,17 @@ untagged rs = countBy (λ r. not (good r)) rs
 unfoldable pub errors : List ℕ → ℕ
 errors rs = countBy auxError rs
 
+-- refused for the port or the number of readings, else r
+abbrev pub admitted : List ℕ → ℕ → Result ℕ Refusal → Result ℕ Refusal
+admitted rs p r = refusing (ltb 3 p) NoSuchLine (refusing (ltb 32768 (length rs)) TooManyReadings r)
+
 -- what the size of a lane is answered with
 abbrev pub sizeAnswer : List ℕ → ℕ → Result ℕ Refusal
-sizeAnswer rs p = refusing (ltb 3 p) NoSuchLine (refusing (ltb 32768 (length rs)) TooManyReadings (Ok (length (lane p rs))))
+sizeAnswer rs p = admitted rs p (Ok (length (lane p rs)))
 
--- what filling a buffer of that size is answered with
+-- what filling a buffer with room for so many bytes is answered with
 abbrev pub fillAnswer : List ℕ → ℕ → ℕ → Result ℕ Refusal
-fillAnswer rs p room = refusing (ltb 3 p) NoSuchLine (refusing (ltb 32768 (length rs)) TooManyReadings (refusing (ltb room (length (lane p rs))) BufferTooShort (Ok (length (lane p rs)))))
+fillAnswer rs p room = admitted rs p (refusing (ltb room (length (lane p rs))) BufferTooShort (Ok (length (lane p rs))))
 
 -- the buffer after it: the lane, then what stood behind it; after a refusal, what it held
 abbrev pub filled : Result ℕ Refusal → List ℕ → List ℕ → List ℕ

@@ -63,15 +63,12 @@ given-none false (Three a b c) l e = cc
 given-none false (Four a b c d) l e = cc
 
 -- every answer has something in it
-pub replied-waits : (p : Packet) (m : Mouse) → nonempty (mouseWaiting (replied p m)) ≡ true
-replied-waits p m = refl
-
-pub resent-waits : (m : Mouse) (l : Packet) → nonempty (answerWaiting false (orElse l (Two 0xAA 0))) ≡ true
-resent-waits m Empty = refl
-resent-waits m (One a) = refl
-resent-waits m (Two a b) = refl
-resent-waits m (Three a b c) = refl
-resent-waits m (Four a b c d) = refl
+pub resent-waits : (l : Packet) → nonempty (answerWaiting false (orElse l (Two 0xAA 0))) ≡ true
+resent-waits Empty = refl
+resent-waits (One a) = refl
+resent-waits (Two a b) = refl
+resent-waits (Three a b c) = refl
+resent-waits (Four a b c d) = refl
 
 pub commanded-waits : (c : Command) (m : Mouse) → nonempty (mouseWaiting (commanded c m)) ≡ true
 commanded-waits Scale1To1 m = refl
@@ -88,7 +85,7 @@ commanded-waits SetRate m = refl
 commanded-waits Enable m = refl
 commanded-waits Disable m = refl
 commanded-waits SetDefaults m = refl
-commanded-waits Resend m = resent-waits m (m .answer .last)
+commanded-waits Resend m = resent-waits (m .answer .last)
 commanded-waits Unlisted m = refl
 
 pub wrapped-waits : (t : Bool) (b : ℕ) (m : Mouse) → nonempty (mouseWaiting (cond t (replied Empty (withDialog false (m .dialog .awaited) m)) (echoed b m))) ≡ true
