@@ -1,3 +1,5 @@
 // The five devices behind a controller.
+#![tactic(auto)]
+
 pub mod bank;
 pub mod five;

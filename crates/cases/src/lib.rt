@@ -1,4 +1,6 @@
 // Worked cases, run as tests. Expected values come from the rules, never from the programs.
+#![tactic(auto)]
+
 #[cfg(test)]
 mod controller_cases;
 #[cfg(test)]

@@ -1,4 +1,6 @@
 // The controller over five devices, each of any kind: four at the AUX ports, and the keyboard.
+#![tactic(auto)]
+
 ghost use Rattle.std.specs.Prelude.{◌≡◌};
 ghost use Rattle.rules.specs.States.{power_on};
 ghost use Rattle.rules.specs.Histories.{new};

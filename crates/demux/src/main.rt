@@ -1,4 +1,6 @@
 // Readings on standard input, a status byte and a data byte each; prints what each port said.
+#![tactic(auto)]
+
 use anyhow::anyhow;
 use report::demux::demux;
 use std::io::Read;

@@ -1,4 +1,6 @@
 // A talk on standard input, line by line; prints each line with what the mouse gives then.
+#![tactic(auto)]
+
 use anyhow::anyhow;
 use std::io::Read;
 use std::str::from_utf8;

@@ -1,4 +1,6 @@
 // A session file on standard input; prints its records in words.
+#![tactic(auto)]
+
 use report::explain::explain;
 use std::io::Read;
 

@@ -1,3 +1,5 @@
 // Recorded readings, and the lane of each port among them.
+#![tactic(auto)]
+
 pub mod lane;
 pub mod reading;

@@ -1,4 +1,6 @@
 // The PS/2 mouse, plain or with a wheel, as its published description has it.
+#![tactic(auto)]
+
 mod command;
 mod counters;
 pub mod mouse;

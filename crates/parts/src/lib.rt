@@ -1,4 +1,6 @@
 // What a controller keeps, part by part.
+#![tactic(auto)]
+
 pub mod dialog;
 pub mod held;
 pub mod lines;

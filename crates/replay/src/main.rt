@@ -1,4 +1,6 @@
 // A session file on standard input; plays it on the tower's controller and prints its transcript.
+#![tactic(auto)]
+
 use player::transcript::transcript;
 use std::io::Read;
 

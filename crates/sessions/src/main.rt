@@ -1,4 +1,6 @@
 // Session files named by arguments; prints each name and the transcript of its file.
+#![tactic(auto)]
+
 use player::transcript::transcript;
 use std::env;
 use std::fs::File;

@@ -1,4 +1,6 @@
 // A talk with a mouse, as text.
+#![tactic(auto)]
+
 pub mod exchange;
 mod fault;
 mod number;

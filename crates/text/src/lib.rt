@@ -1,4 +1,6 @@
 // Bytes as hexadecimal text.
+#![tactic(auto)]
+
 ghost use Rattle.std.specs.Prelude.{◌≡◌, ◌<◌, ◌∷◌, Some};
 ghost use Rattle.text.specs.Hex.{hex_digit, hex, spaced};
 

@@ -1,4 +1,6 @@
 // Worked cases, proved together over one list.
+#![tactic(auto)]
+
 ghost use Rattle.std.specs.Prelude.{◌≡◌, true, length};
 ghost use Rattle.worked.specs.Cases.{cases, passes};
 ghost use Rattle.worked.specs.Witness.{Witness};
