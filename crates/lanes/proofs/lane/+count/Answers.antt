@@ -6,14 +6,14 @@ use Rattle.lanes.specs.Lanes.{lane}
 use Rattle.lanes.proofs.Laws.{size_cons, lane_short}
 use Rattle.lanes.proofs.lane.+count.Goals as goal
 
-counted : (t : ℕ) (c : goal.After-is-of t) → c.count.result + bool_byte c.is-of.result ≡ length (lane c.args.port c.args.readings.now)
+counted : (t : ℕ) (c : goal.After-is_of t) → c.count.result + bool_byte c.is_of.result ≡ length (lane c.args.port c.args.readings.now)
 counted t c =
     let rs = c.args.readings.now in
     let some : 0 < length rs = omega (arith, ltb-false) in
-    simp (c.count.ensures, c.is-of.ensures) (sym (ap (λ l. length (lane c.args.port l)) (first_rest rs 0 some) ∙ size_cons c.args.port (get_or rs 0 0) (between 1 (length rs) rs)))
+    simp (c.count.ensures, c.is_of.ensures) (sym (ap (λ l. length (lane c.args.port l)) (first_rest rs 0 some) ∙ size_cons c.args.port (get_or rs 0 0) (between 1 (length rs) rs)))
 
-pub overflow-add-result : goal.overflow-add-result
-overflow-add-result t c = omega (arith, counted t c, lane_short c.args.port c.args.readings.now)
+pub overflow_add-result : goal.overflow_add-result
+overflow_add-result t c = omega (arith, counted t c, lane_short c.args.port c.args.readings.now)
 
 pub returns-in-empty : goal.returns-in-empty
 returns-in-empty t c = omega (arith, ltb-true, lane_short c.args.port c.args.readings.now)

@@ -3,11 +3,11 @@ use Rattle.lanes.specs.Lanes.{untagged}
 use Rattle.lanes.proofs.Laws.{counted_more, counted_fits, counted_all}
 use Rattle.lanes.proofs.lane.count_none.Goals as goal
 
-pub overflow-add-total : goal.overflow-add-total
-overflow-add-total c = omega (arith, counted_fits c.loop-reading.invariant _ c.loop-reading-test.true c.is-untagged.ensures)
+pub overflow_add-total : goal.overflow_add-total
+overflow_add-total c = omega (arith, counted_fits c.loop-reading.invariant _ c.loop-reading-test.true c.is_untagged.ensures)
 
 pub loop-reading-preserved : goal.loop-reading-preserved
-loop-reading-preserved c = counted_more c.loop-reading.invariant _ c.loop-reading-test.true c.is-untagged.ensures
+loop-reading-preserved c = counted_more c.loop-reading.invariant _ c.loop-reading-test.true c.is_untagged.ensures
 
 pub returns : goal.returns
 unfolding untagged

@@ -28,4 +28,4 @@ loop-found-preserved g c =
     let step : Step d.loop-found.reader (Ok (Some (item_of d.in-Some.next))) d.next-record.new.self = simp d.in-Some.is at d.in-Ok.ensures.step in
     let keeps : Keeps d.loop-found.reader (Ok (Some (item_of d.in-Some.next))) d.next-record.new.self = simp d.in-Some.is at d.in-Ok.ensures.keeps in
     at_record c.loop-found.invariant _ _ step keeps _ _ c.play-reply.ensures.after
-    (c.in-ok-write-line.ensures ∙ ap (λ r. string_bytes c.loop-found.text ++ line_text (c.loop-found.number + 1) r) c.play-reply.ensures.value)
+    (c.in_ok-write-line.ensures ∙ ap (λ r. string_bytes c.loop-found.text ++ line_text (c.loop-found.number + 1) r) c.play-reply.ensures.value)

@@ -22,9 +22,9 @@ returns-in-Err c = IfOk-weaker c.write-refused.result _ _ (λ _ e. e ∙ at_refu
 pub returns-in-default : goal.returns-in-default
 returns-in-default c = IfOk-weaker c.write-end.result _ _ (λ _ e. e ∙ at_end c.loop-found.invariant c.next-record.new.self _ c.place-place.ensures (simp c.in-default.is at c.in-Ok.ensures.step)) c.write-end.ensures
 
-pub overflow-add-number : goal.overflow-add-number
-overflow-add-number c =
-    let d = (goal.at.overflow-add-number c).In-Some in
+pub overflow_add-number : goal.overflow_add-number
+overflow_add-number c =
+    let d = (goal.at.overflow_add-number c).In-Some in
     let lt = shorter c.loop-found.invariant.progress _ _ (step d) (keeps d) in
     omega (arith, c.loop-found.invariant.progress.few, c.loop-found.invariant.progress.short)
 
@@ -34,4 +34,4 @@ loop-found-smaller c = let d = (goal.at.loop-found-smaller c).In-Some in shorter
 pub loop-found-preserved : goal.loop-found-preserved
 loop-found-preserved c =
     let d = (goal.at.loop-found-preserved c).In-Some in
-    at_record c.loop-found.invariant _ _ (step d) (keeps d) _ _ c.place-place.ensures c.in-ok-write-record.ensures
+    at_record c.loop-found.invariant _ _ (step d) (keeps d) _ _ c.place-place.ensures c.in_ok-write-record.ensures

@@ -5,7 +5,7 @@ use Rattle.talk.proofs.exchange.drain.Goals as goal
 pub loop-entry-preserved : goal.loop-entry-preserved
 loop-entry-preserved c =
     let before = c.loop-entry.invariant in
-    let next = on _ before _ c.in-Some.ensures.value _ c.in-ok-write-entry.ensures in
+    let next = on _ before _ c.in-Some.ensures.value _ c.in_ok-write-entry.ensures in
     subst (Sofar _ _ _) (sym c.give.ensures.after) next
 
 pub returns : goal.returns

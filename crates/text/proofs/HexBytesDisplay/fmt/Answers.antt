@@ -15,7 +15,7 @@ loop-byte-init g c plain = record { wrote = writes_in_calls_nil g.W.Write.write_
 pub loop-byte-preserved : goal.loop-byte-preserved
 loop-byte-preserved g c plain =
     let before = c.loop-byte.invariant plain in
-    let one = c.write.ensures.writes before.plain (ap is_ok c.in-ok-write.was) in
+    let one = c.write.ensures.writes before.plain (ap is_ok c.in_ok-write.was) in
     has_written_of_eq g.W.Write.write_str_gives _ _ _ _ (spaced_more _ _ c.loop-byte-test.true) (has_written_append g.W.Write.write_str_gives _ _ _ _ _ before one)
 
 pub returns-clause-writes : goal.returns-clause-writes

@@ -9,11 +9,11 @@ use Rattle.kbc.specs.Chips.{state_of}
 use Rattle.kbc.proofs.chip.Chip.fill.Goals as goal
 
 -- a line that has something gives it
-pub returns-in-err-entry : goal.returns-in-err-entry
-returns-in-err-entry g c =
+pub returns-in_err-entry : goal.returns-in_err-entry
+returns-in_err-entry g c =
     let s = state_of g.B.Bank.values c.args.self.now in
-    let l = c.in-ok-line.line in
-    let found : first_of (gives s) 6 s.next ≡ Some l = sym c.find.ensures ∙ c.in-ok-line.was in
-    let nothing : taken_from (held_at s.held l) s l ≡ None = sym c.take.ensures.value ∙ c.in-err-entry.was in
+    let l = c.in_ok-line.line in
+    let found : first_of (gives s) 6 s.next ≡ Some l = sym c.find.ensures ∙ c.in_ok-line.was in
+    let nothing : taken_from (held_at s.held l) s l ≡ None = sym c.take.ensures.value ∙ c.in_err-entry.was in
     let given = gives_taken l s (first_has (gives s) 6 s.next l found) in
     absurd (none_some given.entry (sym nothing ∙ given.is))
