@@ -44,7 +44,7 @@ impl fmt::Display for Reply {
 }
 
 // The line of a record, which is numbered from 1.
-pub fn write_line(text: &mut String, number: usize, reply: Reply) -> fmt::Result
+pub fn write_line(text: &mut String, number: usize, reply: Reply) -> Result<(), AllocError>
     ensures { OnOk result (string_bytes text.new ≡ string_bytes text.old ++ line_text number reply) }
 {
     write!(text, "{number} {reply}\n")

@@ -23,7 +23,7 @@ use std::alloc::{AllocError, Global};
 use std::fmt;
 
 // The line of a record that ends the run.
-fn write_refused(text: &mut String, before: usize, refusal: Refusal) -> fmt::Result
+fn write_refused(text: &mut String, before: usize, refusal: Refusal) -> Result<(), AllocError>
     requires { before ≤ 65536 }
     ensures { OnOk result (string_bytes text.new ≡ string_bytes text.old ++ end_line before (refused refusal)) }
 {
@@ -35,7 +35,7 @@ fn write_records<C: KeyboardController>(
     text: &mut String,
     controller: &mut C,
     mut reader: Reader<'_>,
-) -> fmt::Result
+) -> Result<(), AllocError>
     requires { AtStart (file_of reader) reader }
     ensures { OnOk result (string_bytes text.new ≡ string_bytes text.old ++ lines_of 0 (C.KeyboardController.state controller.old) (session (left_of reader.entry))) }
 {
@@ -58,7 +58,7 @@ fn write_file<C: KeyboardController>(
     text: &mut String,
     controller: &mut C,
     file: &[u8],
-) -> fmt::Result
+) -> Result<(), AllocError>
     ensures { OnOk result (string_bytes text.new ≡ string_bytes text.old ++ lines_of 0 (C.KeyboardController.state controller.old) (session_of file.now)) }
 {
     match Reader::open(file) {
@@ -87,6 +87,6 @@ pub fn transcript(heap: Global, file: &[u8]) -> Result<String, AllocError>
     let mut controller = tower();
     match write_file(&mut text, &mut controller, file) {
         Ok(()) => Ok(text),
-        Err(_) => Err(AllocError),
+        Err(memory) => Err(memory),
     }
 }

@@ -32,7 +32,7 @@ fn lane_of(heap: Global, readings: &[u16], port: u8) -> Result<Vec<u8>, Failure>
     Ok(bytes)
 }
 
-fn write_lane(text: &mut String, port: u8, bytes: &[u8]) -> fmt::Result
+fn write_lane(text: &mut String, port: u8, bytes: &[u8]) -> Result<(), AllocError>
     ensures { OnOk result (string_bytes text.new ≡ string_bytes text.old ++ lane_text port bytes.now) }
 {
     let size = bytes.len();
@@ -40,7 +40,7 @@ fn write_lane(text: &mut String, port: u8, bytes: &[u8]) -> fmt::Result
     write!(text, "port {port} ({size}):{bytes}\n")
 }
 
-fn write_untagged(text: &mut String, none: Untagged) -> fmt::Result
+fn write_untagged(text: &mut String, none: Untagged) -> Result<(), AllocError>
     ensures { OnOk result (string_bytes text.new ≡ string_bytes text.old ++ untagged_text none.total none.errors) }
 {
     let total = none.total;

@@ -89,20 +89,20 @@ impl<'a> fmt::Display for Words<'a> {
     }
 }
 
-fn write_end(text: &mut String, place: usize, number: usize) -> fmt::Result
+fn write_end(text: &mut String, place: usize, number: usize) -> Result<(), AllocError>
     ensures { OnOk result (string_bytes text.new ≡ string_bytes text.old ++ end_line number place complete) }
 {
     write!(text, "end at {place}: {number} in all\n")
 }
 
-fn write_refused(text: &mut String, place: usize, refusal: Refusal) -> fmt::Result
+fn write_refused(text: &mut String, place: usize, refusal: Refusal) -> Result<(), AllocError>
     ensures { OnOk result (string_bytes text.new ≡ string_bytes text.old ++ end_line 0 place (refused refusal)) }
 {
     let number = refusal.number();
     write!(text, "refused at {place} with {number}: {refusal}\n")
 }
 
-fn write_record(text: &mut String, number: usize, place: usize, next: Record<'_>) -> fmt::Result
+fn write_record(text: &mut String, number: usize, place: usize, next: Record<'_>) -> Result<(), AllocError>
     ensures { OnOk result (string_bytes text.new ≡ string_bytes text.old ++ line number place (item_of next.entry)) }
 {
     let words = Words(next);
@@ -110,7 +110,7 @@ fn write_record(text: &mut String, number: usize, place: usize, next: Record<'_>
 }
 
 // The lines of a file from a reader at its start.
-fn write_records(text: &mut String, mut reader: Reader<'_>) -> fmt::Result
+fn write_records(text: &mut String, mut reader: Reader<'_>) -> Result<(), AllocError>
     requires { AtStart (file_of reader) reader }
     ensures { OnOk result (string_bytes text.new ≡ string_bytes text.old ++ lines_of 0 0 (session (left_of reader.entry))) }
 {
@@ -129,7 +129,7 @@ fn write_records(text: &mut String, mut reader: Reader<'_>) -> fmt::Result
     }
 }
 
-fn write_file(text: &mut String, file: &[u8]) -> fmt::Result
+fn write_file(text: &mut String, file: &[u8]) -> Result<(), AllocError>
     ensures { OnOk result (string_bytes text.new ≡ string_bytes text.old ++ explained file.now) }
 {
     match Reader::open(file) {
@@ -145,6 +145,6 @@ pub fn explain(heap: Global, file: &[u8]) -> Result<String, AllocError>
     let mut text = String::new(heap);
     match write_file(&mut text, file) {
         Ok(()) => Ok(text),
-        Err(_) => Err(AllocError),
+        Err(memory) => Err(memory),
     }
 }

@@ -55,7 +55,7 @@ fn play(mouse: &mut Option<Mouse>, step: Step) -> Result<(), Fault>
     }
 }
 
-fn write_entry(text: &mut String, entry: Entry) -> fmt::Result
+fn write_entry(text: &mut String, entry: Entry) -> Result<(), AllocError>
     ensures { OnOk result (string_bytes text.new ≡ string_bytes text.old ++ (32 ∷ hex (shows entry))) }
 {
     let byte = Hex(entry.shown());
@@ -63,7 +63,7 @@ fn write_entry(text: &mut String, entry: Entry) -> fmt::Result
 }
 
 // All that waits in the mouse, written.
-fn drain(text: &mut String, mouse: &mut Mouse) -> fmt::Result
+fn drain(text: &mut String, mouse: &mut Mouse) -> Result<(), AllocError>
     ensures { OnOk result ((string_bytes text.new ≡ string_bytes text.old ++ answer mouse.old) × (mouse.new ≡ drained mouse.old)) }
 {
     while let Some(entry) = mouse.give() {
@@ -72,7 +72,7 @@ fn drain(text: &mut String, mouse: &mut Mouse) -> fmt::Result
     Ok(())
 }
 
-fn write_answer(text: &mut String, mouse: &mut Option<Mouse>) -> fmt::Result
+fn write_answer(text: &mut String, mouse: &mut Option<Mouse>) -> Result<(), AllocError>
     ensures { OnOk result ((string_bytes text.new ≡ string_bytes text.old ++ any_answer mouse.old) × (mouse.new ≡ any_drained mouse.old)) }
 {
     match mouse {
@@ -81,7 +81,7 @@ fn write_answer(text: &mut String, mouse: &mut Option<Mouse>) -> fmt::Result
     }
 }
 
-fn write_played(text: &mut String, mouse: &mut Option<Mouse>, step: Step) -> fmt::Result
+fn write_played(text: &mut String, mouse: &mut Option<Mouse>, step: Step) -> Result<(), AllocError>
     ensures { OnOk result ((string_bytes text.new ≡ string_bytes text.old ++ played_line step mouse.old) × (mouse.new ≡ any_drained mouse.old)) }
 {
     write!(text, "{step} ->")?;
@@ -90,7 +90,7 @@ fn write_played(text: &mut String, mouse: &mut Option<Mouse>, step: Step) -> fmt
 }
 
 // The line of a step; what waits in the mouse is given.
-fn write_step(text: &mut String, mouse: &mut Option<Mouse>, line: &str, step: Step) -> fmt::Result
+fn write_step(text: &mut String, mouse: &mut Option<Mouse>, line: &str, step: Step) -> Result<(), AllocError>
     ensures { OnOk result ((string_bytes text.new ≡ string_bytes text.old ++ step_line line.now step mouse.old) × (mouse.new ≡ left_by step mouse.old)) }
 {
     match step {
@@ -99,7 +99,7 @@ fn write_step(text: &mut String, mouse: &mut Option<Mouse>, line: &str, step: St
     }
 }
 
-fn write_fault(text: &mut String, number: usize, fault: Fault) -> fmt::Result
+fn write_fault(text: &mut String, number: usize, fault: Fault) -> Result<(), AllocError>
     ensures { OnOk result (string_bytes text.new ≡ string_bytes text.old ++ fault_line number fault) }
 {
     write!(text, "line {number}: {fault}\n")
@@ -115,7 +115,7 @@ fn take_line(mouse: &mut Option<Mouse>, line: &str) -> Result<Step, Fault>
 }
 
 // The lines of a text, up to its end or the first fault.
-fn write_lines(text: &mut String, input: &str) -> fmt::Result
+fn write_lines(text: &mut String, input: &str) -> Result<(), AllocError>
     ensures { OnOk result (string_bytes text.new ≡ string_bytes text.old ++ exchanged input.now) }
 {
     let mut mouse = None;
@@ -140,7 +140,7 @@ fn text_of(heap: Global, input: &str) -> Result<String, AllocError>
     let mut text = String::new(heap);
     match write_lines(&mut text, input) {
         Ok(()) => Ok(text),
-        Err(_) => Err(AllocError),
+        Err(memory) => Err(memory),
     }
 }
 

@@ -10,5 +10,5 @@ loop-port-init c = c.new-text.ensures.bytes ∙ sym (lines_none _)
 pub loop-port-preserved : goal.loop-port-preserved
 loop-port-preserved c =
     let p = c.loop-port.port in
-    let bytes = c.as-slice-in-loop-port-2.ensures.value ∙ c.in_ok-bytes.ensures ∙ ap (lane p) c.as-slice-in-loop-port.ensures.value in
-    c.in_ok-write-lane.ensures ∙ (λ k. c.loop-port.invariant k ++ lane_text p (bytes k)) ∙ sym (lines_more _ p)
+    let bytes = c.as_slice-in-loop-port-2.ensures.value ∙ c.in_ok-bytes.ensures ∙ ap (lane p) c.as_slice-in-loop-port.ensures.value in
+    c.in_ok-write_lane.ensures ∙ (λ k. c.loop-port.invariant k ++ lane_text p (bytes k)) ∙ sym (lines_more _ p)

@@ -7,20 +7,20 @@ use Rattle.report.proofs.Lines.{at_start, at_end, at_refusal, at_record}
 use Rattle.report.proofs.explain.write_records.Goals as goal
 use Rattle.report.proofs.explain.write_records.Goals.{In-Some}
 
-step : (c : In-Some) → Step c.loop-found.reader (Ok (Some (item_of c.in-Some.next))) c.next-record.new.self
+step : (c : In-Some) → Step c.loop-found.reader (Ok (Some (item_of c.in-Some.next))) c.next_record.new.self
 step c = simp c.in-Some.is at c.in-Ok.ensures.step
 
-keeps : (c : In-Some) → Keeps c.loop-found.reader (Ok (Some (item_of c.in-Some.next))) c.next-record.new.self
+keeps : (c : In-Some) → Keeps c.loop-found.reader (Ok (Some (item_of c.in-Some.next))) c.next_record.new.self
 keeps c = simp c.in-Some.is at c.in-Ok.ensures.keeps
 
 pub loop-found-init : goal.loop-found-init
 loop-found-init c = at_start _ _ c.requires
 
 pub returns-in-Err : goal.returns-in-Err
-returns-in-Err c = IfOk-weaker c.write-refused.result _ _ (λ _ e. e ∙ at_refusal c.loop-found.invariant _ _ _ c.place-place.ensures c.in-Err.ensures.step) c.write-refused.ensures
+returns-in-Err c = IfOk-weaker c.write_refused.result _ _ (λ _ e. e ∙ at_refusal c.loop-found.invariant _ _ _ c.place-place.ensures c.in-Err.ensures.step) c.write_refused.ensures
 
-pub returns-in-default : goal.returns-in-default
-returns-in-default c = IfOk-weaker c.write-end.result _ _ (λ _ e. e ∙ at_end c.loop-found.invariant c.next-record.new.self _ c.place-place.ensures (simp c.in-default.is at c.in-Ok.ensures.step)) c.write-end.ensures
+pub returns-in_default : goal.returns-in_default
+returns-in_default c = IfOk-weaker c.write_end.result _ _ (λ _ e. e ∙ at_end c.loop-found.invariant c.next_record.new.self _ c.place-place.ensures (simp c.in_default.is at c.in-Ok.ensures.step)) c.write_end.ensures
 
 pub overflow_add-number : goal.overflow_add-number
 overflow_add-number c =
@@ -34,4 +34,4 @@ loop-found-smaller c = let d = (goal.at.loop-found-smaller c).In-Some in shorter
 pub loop-found-preserved : goal.loop-found-preserved
 loop-found-preserved c =
     let d = (goal.at.loop-found-preserved c).In-Some in
-    at_record c.loop-found.invariant _ _ (step d) (keeps d) _ _ c.place-place.ensures c.in_ok-write-record.ensures
+    at_record c.loop-found.invariant _ _ (step d) (keeps d) _ _ c.place-place.ensures c.in_ok-write_record.ensures

@@ -5,10 +5,10 @@ use Rattle.talk.proofs.exchange.drain.Goals as goal
 pub loop-entry-preserved : goal.loop-entry-preserved
 loop-entry-preserved c =
     let before = c.loop-entry.invariant in
-    let next = on _ before _ c.in-Some.ensures.value _ c.in_ok-write-entry.ensures in
+    let next = on _ before _ c.in-Some.ensures.value _ c.in_ok-write_entry.ensures in
     subst (Sofar _ _ _) (sym c.give.ensures.after) next
 
 pub returns : goal.returns
 returns c =
-    let gave = c.in-default.ensures.value in
+    let gave = c.in_default.ensures.value in
     (done _ c.loop-entry.invariant gave, c.give.ensures.after ∙ still _ c.loop-entry.invariant gave)

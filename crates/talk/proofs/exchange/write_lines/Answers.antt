@@ -6,7 +6,7 @@ use Rattle.talk.proofs.exchange.write_lines.Goals as goal
 pub returns-in-Err : goal.returns-in-Err
 returns-in-Err c =
     let some : 0 < length c.loop-rest.rest.now = omega (arith, false-eqb _ _ c.loop-rest-test.ensures) in
-    IfOk-weaker c.write-fault.result _ _ (λ _ e. e ∙ at_fault c.loop-rest.invariant.1 some _ c.cut.ensures.front _ c.in-Err.ensures) c.write-fault.ensures
+    IfOk-weaker c.write_fault.result _ _ (λ _ e. e ∙ at_fault c.loop-rest.invariant.1 some _ c.cut.ensures.front _ c.in-Err.ensures) c.write_fault.ensures
 
 pub loop-rest-smaller : goal.loop-rest-smaller
 loop-rest-smaller c =
@@ -16,7 +16,7 @@ loop-rest-smaller c =
 pub loop-rest-preserved : goal.loop-rest-preserved
 loop-rest-preserved c =
     let some : 0 < length c.loop-rest.rest.now = omega (arith, false-eqb _ _ c.loop-rest-test.ensures) in
-    let wrote = c.in_ok-write-step.ensures in
+    let wrote = c.in_ok-write_step.ensures in
     (search rules, at_step c.loop-rest.invariant.1 some _ c.cut.ensures.front _ _ _ _ _ c.in-Ok.ensures c.cut.ensures.back wrote.0 wrote.1)
 
 pub returns : goal.returns

@@ -9,5 +9,5 @@ joined t u v w a p q = ap (λ v. v ++ codes "\n") (q ∙ ap (λ u. u ++ a) p) �
 
 pub returns : goal.returns
 returns c =
-    let answered = c.in_ok-write-answer.ensures in
+    let answered = c.in_ok-write_answer.ensures in
     IfOk-weaker c.write-2.result _ _ (λ _ e. (e ∙ joined (string_bytes c.args.text.now) _ _ (step_words c.args.step) (any_answer c.args.mouse.now) c.in_ok-write.ensures.bytes answered.0, answered.1)) c.write-2.ensures.bytes

@@ -8,4 +8,4 @@ returns-in-45 c =
     let t = c.args.text.now in
     let minus : get_or t 0 0 ≡ 45 = omega arith in
     let digits = c.count.ensures.value ∙ ap count_of (take_all (length t - 1) (drop 1 t) (simp length-drop (omega arith))) in
-    c.signed-count.ensures ∙ ap (signed_of true) digits ∙ sym (ap (λ b. cond b (signed_of true (count_of (drop 1 t))) (signed_of false (count_of t))) (eq-eqb _ 45 minus))
+    c.signed_count.ensures ∙ ap (signed_of true) digits ∙ sym (ap (λ b. cond b (signed_of true (count_of (drop 1 t))) (signed_of false (count_of t))) (eq-eqb _ 45 minus))

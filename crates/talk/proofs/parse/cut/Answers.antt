@@ -8,7 +8,7 @@ use Rattle.talk.proofs.parse.cut.Goals as goal
 pub returns-in-Some : goal.returns-in-Some
 returns-in-Some c =
     let at = c.args.at in
-    let parts = MatchOption-at_some _ _ c.in-Some.parts c.in-Some.is (split_parts at c.args.text.now _ c.split-once.ensures.cases c.requires) in
+    let parts = MatchOption-at_some _ _ c.in-Some.parts c.in-Some.is (split_parts at c.args.text.now _ c.split_once.ensures.cases c.requires) in
     record {
       front = sym (ap (before at) parts.0 ∙ before_at at _ _ parts.1);
       back = sym (ap (behind at) parts.0 ∙ behind_at at _ _ parts.1);
@@ -17,5 +17,5 @@ returns-in-Some c =
 pub returns-in-None : goal.returns-in-None
 returns-in-None c =
     let at = c.args.at in
-    let none = MatchOption-at_none _ _ c.in-None.is (split_parts at c.args.text.now _ c.split-once.ensures.cases c.requires) in
+    let none = MatchOption-at_none _ _ c.in-None.is (split_parts at c.args.text.now _ c.split_once.ensures.cases c.requires) in
     record { front = sym (before_none at _ none); back = sym (behind_none at _ none) }
