@@ -5,6 +5,7 @@ ghost use Rattle.player.specs.Replies.{reply_text, line_text};
 use parts::lines::Line;
 use parts::output::Carried;
 use ps2::refusal::Refusal;
+use std::alloc::AllocError;
 use std::fmt;
 use text::Hex;
 
