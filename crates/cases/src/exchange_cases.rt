@@ -1,4 +1,5 @@
 // Talks with a mouse, by their text.
+use std::process::Abort;
 use std::test::*;
 use talk::exchange::exchange;
 
@@ -8,9 +9,9 @@ const BAD_MOVEMENT: &str = "plain -> aa 00\nline 2: a movement has four numbers\
 
 const OUT_OF_RANGE: &str = "plain -> aa 00\nline 2: number out of range\n";
 
-fn says(rt: &HostRuntime, input: &str, text: &str) -> Result<(), Fail> {
+fn says(rt: &(impl Abort + AllocGlobal), input: &str, text: &str) -> Result<(), Fail> {
     let said = exchange(rt.alloc(), input)?;
-    assert_eq!(said.as_str(), text);
+    assert_eq!(rt; said.as_str(), text);
     Ok(())
 }
 
@@ -82,7 +83,7 @@ fn bytes(rt: HostRuntime) -> Result<(), Fail> {
 }
 
 // A line behind a new mouse.
-fn bad_second(rt: &HostRuntime, line: &str, text: &str) -> Result<(), Fail> {
+fn bad_second(rt: &(impl Abort + AllocGlobal), line: &str, text: &str) -> Result<(), Fail> {
     let input = format!(in rt.alloc(); "plain\n{line}\nplain\n")?;
     says(rt, input.as_str(), text)
 }
