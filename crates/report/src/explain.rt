@@ -102,7 +102,12 @@ fn write_refused(text: &mut String, place: usize, refusal: Refusal) -> Result<()
     write!(text, "refused at {place} with {number}: {refusal}\n")
 }
 
-fn write_record(text: &mut String, number: usize, place: usize, next: Record<'_>) -> Result<(), AllocError>
+fn write_record(
+    text: &mut String,
+    number: usize,
+    place: usize,
+    next: Record<'_>,
+) -> Result<(), AllocError>
     ensures { OnOk result (string_bytes text.new ≡ string_bytes text.old ++ line number place (item_of next.entry)) }
 {
     let words = Words(next);

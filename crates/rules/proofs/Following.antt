@@ -5,7 +5,6 @@ use Rattle.ps2.specs.declared.entry.Entry.{Entry}
 use Rattle.ps2.specs.declared.refusal.Refusal.{Refusal}
 use Rattle.ps2.specs.declared.refusal.Refusal.TheVariants.{UnknownCommand, FieldOutOfRange}
 use Rattle.ps2.specs.Refusals.{refusing}
-use Rattle.ps2.specs.Entries.{shows}
 use Rattle.ps2.specs.Events.{Happening, in_range}
 use Rattle.ps2.specs.Kinds.{room_answer}
 use Rattle.parts.specs.declared.lines.Line.{Line}

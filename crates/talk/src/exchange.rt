@@ -90,7 +90,12 @@ fn write_played(text: &mut String, mouse: &mut Option<Mouse>, step: Step) -> Res
 }
 
 // The line of a step; what waits in the mouse is given.
-fn write_step(text: &mut String, mouse: &mut Option<Mouse>, line: &str, step: Step) -> Result<(), AllocError>
+fn write_step(
+    text: &mut String,
+    mouse: &mut Option<Mouse>,
+    line: &str,
+    step: Step,
+) -> Result<(), AllocError>
     ensures { OnOk result ((string_bytes text.new ≡ string_bytes text.old ++ step_line line.now step mouse.old) × (mouse.new ≡ left_by step mouse.old)) }
 {
     match step {
