@@ -1,11 +1,12 @@
 -- What is written as bytes reads as the same records.
 use Rattle.std.proofs.Common.{◌≡◌, ℕ, ◌+◌, ◌-◌, ◌*◌, ◌/◌, ◌%◌, true, false, ltb, leb, List, [], ◌∷◌, ◌++◌, length, drop, Ok, sym, refl, ap, ◌∙◌, arith, length-append, w8, w16, to_z, of_z}
-use Rattle.std.specs.List.{flat_map}
+use Rattle.std.specs.List.{flat_map, AllByRecursion}
+use Rattle.std.proofs.lemmas.List.Elements.{recursion_from_All}
 use Rattle.std.proofs.lemmas.List.{take_at, drop_at, drop-drop}
 use Rattle.std.proofs.lemmas.Int.{to_z-of_z}
 use Rattle.std.proofs.lemmas.Bool.{le-leb, le-ltb}
 use Rattle.session.specs.Records.{Item, command_write, data_write, status_read, data_read, turn, movement, stroke, cable, kind_of, payload_of, bytes_of, Valid, word, said}
-use Rattle.session.specs.Files.{headed, said_by, first, onward, session, ReadsBack}
+use Rattle.session.specs.Files.{complete, headed, said_by, first, onward, session, ReadsBack}
 use Rattle.session.proofs.Steps.{session_none, session_more}
 
 halves : (n : ℕ) → n % 256 + n / 256 * 256 ≡ n
@@ -44,8 +45,11 @@ module _ (i : Item) (v : Valid i) (rest : List ℕ) where
   rest_valid : drop (4 + word (bytes_of i ++ rest) 0) (bytes_of i ++ rest) ≡ rest
   rest_valid = sym (drop-drop (word (bytes_of i ++ rest) 0) 4 (bytes_of i ++ rest)) ∙ drop_at (payload_of i) rest _ (sym size)
 
-pub reads_back : ReadsBack
-reads_back [] v = session_none
-reads_back (i ∷ is) v =
+all_read_back : (is : List Item) → AllByRecursion Valid is → session (flat_map bytes_of is) ≡ record { records = is; ending = complete }
+all_read_back [] v = session_none
+all_read_back (i ∷ is) v =
     let rest = flat_map bytes_of is in
-    session_more (bytes_of i ++ rest) (omega arith) ∙ (λ k. onward (first_valid i v.0 rest k) (session (rest_valid i v.0 rest k))) ∙ ap (onward (Ok i)) (reads_back is v.1)
+    session_more (bytes_of i ++ rest) (omega arith) ∙ (λ k. onward (first_valid i v.0 rest k) (session (rest_valid i v.0 rest k))) ∙ ap (onward (Ok i)) (all_read_back is v.1)
+
+pub reads_back : ReadsBack
+reads_back is v = all_read_back is (recursion_from_All Valid is v)

@@ -4,8 +4,8 @@
 --   session_of file  the same of a whole file, which may be too long or empty
 --   answered s      what a reader answers that has s before it
 --   behind s        s without its first record
-use Rattle.std.specs.Prelude.{◌≡◌, ℕ, zero, suc, ◌+◌, ◌-◌, cond, List, [], ◌∷◌, length, take, drop, Some, None, Ok, Err, Option, Result, ◌==◌, nat_lt}
-use Rattle.std.specs.List.{flat_map, AllByRecursion as All}
+use Rattle.std.specs.Prelude.{◌≡◌, ℕ, zero, suc, ◌+◌, ◌-◌, cond, List, [], ◌∷◌, length, take, drop, Some, None, Ok, Err, Option, Result, All, ◌==◌, nat_lt}
+use Rattle.std.specs.List.{flat_map}
 use Rattle.ps2.specs.declared.refusal.Refusal.{Refusal}
 use Rattle.ps2.specs.declared.refusal.Refusal.TheVariants.{FileEndsInside, FileTooLong}
 use Rattle.ps2.specs.Refusals.{refusing}
