@@ -1,5 +1,5 @@
 -- Controllers: the state of a controller over five devices.
---   state_by m0 .. m4    of these models
+--   state_by m0 .. m4   of these models
 use Rattle.ps2.specs.Kinds.{Model}
 use Rattle.rules.specs.States.{State}
 use Rattle.bank.specs.Fives.{kinds_of, values_of}

@@ -1,7 +1,7 @@
 -- What a board keeps over every run, read from calls and answers alone.
 --   owed h           whether a byte was taken since the last giving: the next entry given is its acknowledge
---   strokes_in h      the bytes of the accepted strokes, in order
---   strokes_out h     the stroke bytes given, in order: what was given where no acknowledge was owed
+--   strokes_in h     the bytes of the accepted strokes, in order
+--   strokes_out h    the stroke bytes given, in order: what was given where no acknowledge was owed
 --   taken h          how many host bytes were taken
 --   acknowledged h   how many of them were given their FAh
 use Rattle.std.specs.Prelude.{◌≡◌, ℕ, ◌+◌, Bool, true, false, cond, ◌&&◌, List, [], ◌∷◌, ◌++◌, Some, None, ◌==◌}

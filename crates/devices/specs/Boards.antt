@@ -1,8 +1,8 @@
 -- Boards: the kind of a pickup board.
---   BoardValue      whether an acknowledge waits, and the stroke bytes that wait
---   blank           nothing waits
---   board_kind       what waits is the acknowledge, then the strokes; a byte is taken where no acknowledge waits;
---                   a stroke has room where all of it finds a place
+--   BoardValue   whether an acknowledge waits, and the stroke bytes that wait
+--   blank        nothing waits
+--   board_kind   what waits is the acknowledge, then the strokes; a byte is taken where no acknowledge waits;
+--                a stroke has room where all of it finds a place
 use Rattle.std.specs.Prelude.{◌≡◌, ℕ, Bool, true, false, not, List, [], ◌∷◌, ◌++◌, refl}
 use Rattle.ps2.specs.Entries.{ahead}
 use Rattle.ps2.specs.Events.{Happening, movement, stroke, pull, plug}

@@ -1,7 +1,7 @@
 -- Cables: the kind of a cable over a device of any kind.
---   CableValue K    whether it is plugged, and the value of the device below
---   cable_kind K     plugged it is the device below; pulled nothing waits, no byte is taken, every event is
---                   accepted, and only a plug changes anything: it powers the device below up
+--   CableValue K   whether it is plugged, and the value of the device below
+--   cable_kind K   plugged it is the device below; pulled nothing waits, no byte is taken, every event is
+--                  accepted, and only a plug changes anything: it powers the device below up
 use Rattle.std.specs.Prelude.{◌≡◌, ℕ, Bool, true, false, List, [], refl}
 use Rattle.std.proofs.Common.{ap}
 use Rattle.ps2.specs.declared.entry.Entry.{Entry}

@@ -1,7 +1,7 @@
 -- Queues: up to 16 bytes in order.
---   bytes_of q       the bytes that a queue holds, first one first
---   fits bs more    whether more bytes find a place
---   entered bs more the bytes after that: all of them behind, or none
+--   bytes_of q        the bytes that a queue holds, first one first
+--   fits bs more      whether more bytes find a place
+--   entered bs more   the bytes after that: all of them behind, or none
 use Rattle.std.specs.Prelude.{ℕ, ◌+◌, Bool, cond, List, ◌++◌, length, take, nat_le}
 use Rattle.devices.specs.declared.queue.Queue.{Queue}
 

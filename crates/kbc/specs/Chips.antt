@@ -1,5 +1,5 @@
 -- Chips: the state of a controller above its devices.
---   state_of f c    the state of c, f being the values of its devices
+--   state_of f c   the state of c, f being the values of its devices
 use Rattle.parts.specs.Held.{held_of}
 use Rattle.rules.specs.Banks.{Kinds, Values}
 use Rattle.rules.specs.States.{State}

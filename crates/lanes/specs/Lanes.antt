@@ -1,7 +1,7 @@
 -- Lanes: what each port said, from the readings of all.
---   lane p rs       the data bytes of the readings of port p, in their order
---   untagged rs     how many readings belong to no port
---   errors rs       how many had OBF, AUX and Error all set
+--   lane p rs     the data bytes of the readings of port p, in their order
+--   untagged rs   how many readings belong to no port
+--   errors rs     how many had OBF, AUX and Error all set
 use Rattle.std.specs.Prelude.{◌≡◌, ℕ, ◌+◌, not, List, ◌++◌, map, length, drop, Ok, Err, count_by, filter, Result, nat_lt}
 use Rattle.ps2.specs.declared.refusal.Refusal.{Refusal}
 use Rattle.ps2.specs.declared.refusal.Refusal.TheVariants.{NoSuchLine, TooManyReadings, BufferTooShort}

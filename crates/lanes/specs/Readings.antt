@@ -1,8 +1,8 @@
 -- Readings: a status byte and the data byte read after it, in one number.
 --   status r, data_byte r   the two bytes
---   full, aux, error       the status bits OBF (0), AUX (5) and Error (2)
---   tag r                  the port number in status bits 7 and 6
---   good r                 a good byte of a port: OBF and AUX set, Error clear
+--   full, aux, error        the status bits OBF (0), AUX (5) and Error (2)
+--   tag r                   the port number in status bits 7 and 6
+--   good r                  a good byte of a port: OBF and AUX set, Error clear
 --   aux_error r             OBF, AUX and Error all set: an AUX byte that belongs to no port
 --   port_of r               the port that a reading belongs to, if it belongs to one
 --   is_of p r               whether that port is p

@@ -1,6 +1,6 @@
 -- Counters: how far the mouse has moved since the last packet.
---   axis_moved a d     a counter after a movement d: within -255 to 255, or it stays and its flag is set
---   wheel_moved w d    the wheel's counter, which stops at -8 and 7
+--   axis_moved a d    a counter after a movement d: within -255 to 255, or it stays and its flag is set
+--   wheel_moved w d   the wheel's counter, which stops at -8 and 7
 use Rattle.std.specs.Prelude.{Bool, true, false, cond, ◌&&◌, ℤ, pos, negsuc, ◌+ℤ◌, int_le, int_lt}
 use Rattle.mouse.specs.declared.counters.Axis.{Axis}
 

@@ -1,10 +1,10 @@
 -- Hearing: what a mouse makes of a byte from the host.
---   replied p m       an FAh, then a packet; counters are reset; a Resend repeats the packet, or the FAh alone
---   echoed b m        the byte alone; counters are reset
---   resent m          the last packet again, or AAh 00h if there is none; nothing else changes
---   commanded c m     the answer to a command
---   heard m b         the answer to a byte: FFh is a Reset everywhere; else in Wrap mode all but ECh is echoed;
---                     else it is the argument awaited, or a command
+--   replied p m     an FAh, then a packet; counters are reset; a Resend repeats the packet, or the FAh alone
+--   echoed b m      the byte alone; counters are reset
+--   resent m        the last packet again, or AAh 00h if there is none; nothing else changes
+--   commanded c m   the answer to a command
+--   heard m b       the answer to a byte: FFh is a Reset everywhere; else in Wrap mode all but ECh is echoed;
+--                   else it is the argument awaited, or a command
 use Rattle.std.specs.Prelude.{ℕ, Bool, true, false, cond, ◌==◌, nat_le}
 use Rattle.mouse.specs.declared.packet.Packet.{Packet}
 use Rattle.mouse.specs.declared.packet.Packet.TheVariants.{Empty, One, Two}

@@ -1,6 +1,6 @@
 -- Mice: a mouse as power-up or a Reset leaves it.
---   still              no movement
---   began v a          defaults, ID 0, no movement, no buttons, no rates; AAh 00h waits, behind an FAh if a
+--   still       no movement
+--   began v a   defaults, ID 0, no movement, no buttons, no rates; AAh 00h waits, behind an FAh if a
 use Rattle.std.specs.Prelude.{Bool, false, pos}
 use Rattle.mouse.specs.declared.counters.Axis.{Axis}
 use Rattle.mouse.specs.declared.counters.Counters.{Counters}

@@ -1,6 +1,6 @@
 -- The kind of a mouse. Its values are the mice themselves.
---   mouse_waiting m    the acknowledge, then the packet
---   mouse_kind         every host byte is taken, every event has room; only movements matter
+--   mouse_waiting m   the acknowledge, then the packet
+--   mouse_kind        every host byte is taken, every event has room; only movements matter
 use Rattle.std.specs.Prelude.{◌≡◌, ℕ, Bool, true, false, cond, List, [], ◌==◌, refl}
 use Rattle.std.proofs.Common.{ap}
 use Rattle.ps2.specs.declared.entry.Entry.{Entry}

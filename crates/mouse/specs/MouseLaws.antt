@@ -1,7 +1,7 @@
 -- What holds of a mouse, in other words than its rules.
---   Shown id c b p     the packet p, read as the published table has it, gives the movement, the buttons and the
---                      overflow flags that it was made from
---   Laws               all of it together
+--   Shown id c b p   the packet p, read as the published table has it, gives the movement, the buttons and the
+--                    overflow flags that it was made from
+--   Laws             all of it together
 use Rattle.std.specs.Prelude.{◌≡◌, ℕ, ◌-◌, ◌/◌, ◌%◌, ◌^◌, ◌≤◌, Bool, true, false, List, length, ℤ, pos, negsuc, neg_ℤ, ◌≤ℤ◌, ◌==◌, nat_lt, slice_index, slice_index_or}
 use Rattle.ps2.specs.Events.{Happening}
 use Rattle.ps2.specs.Runs.{Call, Ran}

@@ -1,7 +1,7 @@
 -- Packets: up to four bytes that go to the host together.
---   bytes_of p      its bytes
---   behind p       it without its first byte
---   or_else p q     p, or q where p is empty
+--   bytes_of p    its bytes
+--   behind p      it without its first byte
+--   or_else p q   p, or q where p is empty
 use Rattle.std.specs.Prelude.{ℕ, List, [], ◌∷◌}
 use Rattle.mouse.specs.declared.packet.Packet.{Packet}
 use Rattle.mouse.specs.declared.packet.Packet.TheVariants.{Empty, One, Two, Three, Four}

@@ -1,9 +1,9 @@
 -- Reports: what the mouse tells, as packets.
---   scaled_size n              the table of 2:1 scaling
---   scaled a                  a counter under 2:1: sign kept, 255 and the overflow bit where it is larger
---   shown_buttons id b         the buttons that a packet can show: three, five under ID 4
---   movement_packet id c b     three bytes; four under ID 3 (wheel) and ID 4 (wheel, fourth and fifth button)
---   status_packet s b          settings, buttons, resolution and rate
+--   scaled_size n            the table of 2:1 scaling
+--   scaled a                 a counter under 2:1: sign kept, 255 and the overflow bit where it is larger
+--   shown_buttons id b       the buttons that a packet can show: three, five under ID 4
+--   movement_packet id c b   three bytes; four under ID 3 (wheel) and ID 4 (wheel, fourth and fifth button)
+--   status_packet s b        settings, buttons, resolution and rate
 use Rattle.std.specs.Prelude.{ℕ, ◌+◌, ◌*◌, ◌/◌, ◌%◌, min, Bool, cond, ◌||◌, ℤ, pos, neg_ℤ, ◌==◌, int_lt, nat_le, nat_lt, unsigned_abs}
 use Rattle.std.specs.Int.{w8, w16}
 use Rattle.std.proofs.Common.{of_z}

@@ -1,9 +1,9 @@
 -- Settings: what a host can set.
---   id_of i             the device ID that a host reads
---   defaults           rate 100, resolution 4 counts/mm (code 2), 1:1, reporting disabled, Stream mode
---   listed_rate r       whether a sample rate is one of the seven
---   knocked v k r      identity and last three rates after one rate more: 200, 100, 80 makes a wheel model
---                      ID 3, and 200, 200, 80 ID 4
+--   id_of i         the device ID that a host reads
+--   defaults        rate 100, resolution 4 counts/mm (code 2), 1:1, reporting disabled, Stream mode
+--   listed_rate r   whether a sample rate is one of the seven
+--   knocked v k r   identity and last three rates after one rate more: 200, 100, 80 makes a wheel model
+--                   ID 3, and 200, 200, 80 ID 4
 use Rattle.std.specs.Prelude.{ℕ, Bool, false, cond, ◌&&◌, ◌||◌, ◌==◌}
 use Rattle.mouse.specs.declared.settings.Variant.{Variant}
 use Rattle.mouse.specs.declared.settings.Variant.TheVariants as variant

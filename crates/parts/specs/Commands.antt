@@ -1,9 +1,9 @@
 -- Commands: the table of command bytes.
---   decoded a b       the command of a byte, by what was awaited before it; none where the table has no such byte
---   is_prefix b        90h to 93h
---   awaits w          what the next data byte is for after a host byte
---   needs w a         the line whose held place a host byte needs: an answer the controller's own, an argument that is
---                     held and a byte that is sent its own line
+--   decoded a b   the command of a byte, by what was awaited before it; none where the table has no such byte
+--   is_prefix b   90h to 93h
+--   awaits w      what the next data byte is for after a host byte
+--   needs w a     the line whose held place a host byte needs: an answer the controller's own, an argument that is
+--                 held and a byte that is sent its own line
 use Rattle.std.specs.Prelude.{ℕ, ◌-◌, Bool, cond, ◌&&◌, Some, None, Option, ◌==◌, nat_le}
 use Rattle.parts.specs.declared.dialog.Awaited.{Awaited}
 use Rattle.parts.specs.declared.dialog.Awaited.TheVariants.{Nothing, CommandByte, KeyboardLoopback, AuxLoopback, AuxSend, Route}

@@ -1,9 +1,9 @@
 -- Held places: one for an entry at each of the six lines.
 --   Held             what is held at each line
---   held_of t         of the table of line records
---   held_at h l       the entry held at a line
---   put_held h n e    the places after e is put at the line of number n
---   kept_held h       what reverting leaves: lines 1 to 3 are there in Multiplexed mode alone
+--   held_of t        of the table of line records
+--   held_at h l      the entry held at a line
+--   put_held h n e   the places after e is put at the line of number n
+--   kept_held h      what reverting leaves: lines 1 to 3 are there in Multiplexed mode alone
 use Rattle.std.specs.Prelude.{ℕ, cond, List, None, Option, ◌==◌, slice_index_or}
 use Rattle.ps2.specs.declared.entry.Entry.{Entry}
 use Rattle.parts.specs.declared.lines.Line.{Line}

@@ -1,10 +1,10 @@
 -- Lines: AUX ports 0 to 3, the keyboard 4, the controller's own answers 5.
 --   port_number p, line_number l   their numbers
---   port_at n                     the port of a number up to 3
---   line_after l                  the line above, with 0 after 5
---   device_line n                 the line of a number, if it has a device
---   in_legacy l                   whether Legacy mode has the line: all but ports 1 to 3
---   is_port p n                   whether a line's number is the port's
+--   port_at n                      the port of a number up to 3
+--   line_after l                   the line above, with 0 after 5
+--   device_line n                  the line of a number, if it has a device
+--   in_legacy l                    whether Legacy mode has the line: all but ports 1 to 3
+--   is_port p n                    whether a line's number is the port's
 use Rattle.std.specs.Prelude.{ℕ, Bool, true, false, cond, Some, None, Option, ◌==◌, nat_le}
 use Rattle.parts.specs.declared.lines.Port.{Port}
 use Rattle.parts.specs.declared.lines.Port.TheVariants.{P0, P1, P2, P3}

@@ -1,7 +1,7 @@
 -- Outputs: what stands beside an entry in the status, and the numbers of a turn's answer.
---   faulty e             a parity fault or a timeout
---   line_bits m flag l e  bits 7 to 2 beside an entry of a line, by the mode and the System Flag
---   carried_number c      the number of what became of the host byte
+--   faulty e               a parity fault or a timeout
+--   line_bits m flag l e   bits 7 to 2 beside an entry of a line, by the mode and the System Flag
+--   carried_number c       the number of what became of the host byte
 use Rattle.std.specs.Prelude.{ℕ, ◌+◌, ◌*◌, Bool, true, false, cond}
 use Rattle.ps2.specs.declared.entry.Entry.{Entry}
 use Rattle.ps2.specs.declared.entry.Entry.TheVariants.{Byte, Parity, Timeout}

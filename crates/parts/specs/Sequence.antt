@@ -1,6 +1,6 @@
 -- Sequence: the arguments that switch between the modes.
---   leads q b      the place after an argument: F0h leads to 1, 56h from 1 to 2, the rest to 0
---   outcome q b    at place 2 A4h enters Multiplexed mode and A5h leaves it
+--   leads q b     the place after an argument: F0h leads to 1, 56h from 1 to 2, the rest to 0
+--   outcome q b   at place 2 A4h enters Multiplexed mode and A5h leaves it
 use Rattle.std.specs.Prelude.{ℕ, Bool, true, false, cond, ◌&&◌, ◌==◌}
 use Rattle.parts.specs.declared.dialog.Place.{Place}
 use Rattle.parts.specs.declared.dialog.Place.TheVariants.{Zero, One, Two}

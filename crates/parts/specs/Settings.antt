@@ -1,8 +1,8 @@
 -- Settings: the mode, the command byte and the ports' flags.
---   new_settings             Legacy mode, each number and flag 0
+--   new_settings              Legacy mode, each number and flag 0
 --   disabling g, enabling g   a gate is closed or opened: bit 4 for the keyboard, bit 5 for AUX, a port's own flag
---   line_open g l            open are a port in Multiplexed mode by bit 5 and its flag, port 0 in Legacy mode by bit 5,
---                           the keyboard by bit 4
+--   line_open g l             open are a port in Multiplexed mode by bit 5 and its flag, port 0 in Legacy mode by bit 5,
+--                             the keyboard by bit 4
 use Rattle.std.specs.Prelude.{ℕ, Bool, true, false, not, ◌&&◌, List, [], ◌∷◌, ◌==◌, bit_and, bit_or, slice_index_or, slice_set}
 use Rattle.parts.specs.declared.lines.Line.{Line}
 use Rattle.parts.specs.declared.lines.Line.TheVariants.{Aux, Keyboard, Controller}

@@ -1,7 +1,7 @@
 -- Plays: a session's record as a call of the controller.
---   call_by i s      the call that a record makes, with its answer; a cable record with a bad field is refused before it
---   reply_to i s     what playing it answers
---   played_to i s    the state after it
+--   call_by i s     the call that a record makes, with its answer; a cable record with a bad field is refused before it
+--   reply_to i s    what playing it answers
+--   played_to i s   the state after it
 --   gone r h        the history after it
 --   Plays s i t     it leads from s to t: so every history goes on, and the law holds behind it
 use Rattle.std.specs.Prelude.{◌≡◌, ℕ, cond, Some, None, Ok, Err, Option, Result, ◌==◌, nat_lt}

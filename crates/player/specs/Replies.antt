@@ -1,6 +1,6 @@
 -- Replies: what playing a record answers, as text.
---   reply_text r     ok, two hex digits, a turn's two parts, or ! and a refusal's number
---   line_text n r    the line of record number n
+--   reply_text r    ok, two hex digits, a turn's two parts, or ! and a refusal's number
+--   line_text n r   the line of record number n
 use Rattle.std.specs.Prelude.{ℕ, List, ◌++◌, Some, None, codes, decimal}
 use Rattle.ps2.specs.Refusals.{number_of}
 use Rattle.parts.specs.Lines.{line_number}

@@ -2,8 +2,8 @@
 --   lines_from n s is e    the lines of the records is, played from the state s, n records before them; then of the ending
 --   state_to, history_to   the state after the records, and the calls that they made behind a history
 --   tower_devices          ports 0 and 1 wheel mice, 2 and 3 boards, all on cables; the keyboard a board
---   transcript file       the whole text
---   Runs file             the calls so made, from power-on, and the law behind them
+--   transcript file        the whole text
+--   Runs file              the calls so made, from power-on, and the law behind them
 use Rattle.std.specs.Prelude.{◌≡◌, ℕ, ◌+◌, true, false, List, [], ◌∷◌, ◌++◌}
 use Rattle.devices.specs.Boards.{blank, board_model, board_kind}
 use Rattle.devices.specs.Cables.{cable_value, cable_model}

@@ -20,7 +20,6 @@ use mouse::settings::Variant;
 use ps2::refusal::Refusal;
 use session::reader::Reader;
 use std::alloc::{AllocError, Global};
-use std::fmt;
 
 // The line of a record that ends the run.
 fn write_refused(text: &mut String, before: usize, refusal: Refusal) -> Result<(), AllocError>

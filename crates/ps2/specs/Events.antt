@@ -1,7 +1,7 @@
 -- Events: what happens to a device from outside.
---   Happening     an event as a value, its borrowed bytes read
---   told e        the value of an event of the code
---   inRange e     whether each field is one that an event may have
+--   Happening    an event as a value, its borrowed bytes read
+--   told e       the value of an event of the code
+--   in_range e   whether each field is one that an event may have
 use Rattle.std.specs.Prelude.{ℕ, Bool, true, ◌&&◌, List, length, ℤ, pos, negsuc, int_le, nat_le}
 use Rattle.ps2.specs.declared.event.Event.{Event}
 use Rattle.ps2.specs.declared.event.Event.TheVariants.{Movement, Stroke, Pull, Plug}

@@ -1,10 +1,10 @@
 -- Kinds: what any device means. A kind has values; it tells of each what waits, which bytes are taken,
 -- which events have room, and what it becomes.
---   first es, rest es     the entry that waits first, and the entries behind it
---   nonempty es           whether any waits
---   chosen t new old      new where t holds, else old: what is refused changes nothing
---   Kind                  a kind of device, with the laws that every kind keeps
---   Model S               the kind of the device type S, and the value that each S stands for
+--   first es, rest es   the entry that waits first, and the entries behind it
+--   nonempty es         whether any waits
+--   chosen t new old    new where t holds, else old: what is refused changes nothing
+--   Kind                a kind of device, with the laws that every kind keeps
+--   Model S             the kind of the device type S, and the value that each S stands for
 use Rattle.std.specs.Prelude.{◌≡◌, ℕ, Bool, true, false, List, [], ◌∷◌, Some, None, Ok, Err, Option, Result}
 use Rattle.ps2.specs.declared.entry.Entry.{Entry}
 use Rattle.ps2.specs.declared.refusal.Refusal.{Refusal}

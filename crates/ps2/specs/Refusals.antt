@@ -1,6 +1,6 @@
 -- Refusals: what each one is called, numbered and means.
---   number_of e       its number, by which programs show it
---   meaning_of e      its meaning, in the words that are printed
+--   number_of e      its number, by which programs show it
+--   meaning_of e     its meaning, in the words that are printed
 --   refusing t e r   refused with e where t holds, else r; nested so that the smaller number comes first
 use Rattle.std.specs.Prelude.{ℕ, Bool, true, false, List, Err, codes, Result}
 use Rattle.ps2.specs.declared.refusal.Refusal.{Refusal}

@@ -1,6 +1,6 @@
 -- Runs: what was asked of a device since its power-up, and what it answered.
---   Call          a call with its answer
---   Ran K h v     the calls h, newest first, led a device of kind K from power-up to the value v
+--   Call        a call with its answer
+--   Ran K h v   the calls h, newest first, led a device of kind K from power-up to the value v
 use Rattle.std.specs.Prelude.{ℕ, Bool, List, [], ◌∷◌, Option}
 use Rattle.ps2.specs.declared.entry.Entry.{Entry}
 use Rattle.ps2.specs.Events.{Happening}

@@ -2,7 +2,7 @@
 --   reading_of p      the reading of a pair of bytes: status, then data
 --   lane_line rs p    a port's line: its number, the size of its lane, the lane in hexadecimal
 --   lane_lines rs n   the lines of the ports below n
---   demuxed rs       the whole text: four lanes, and the readings that belong to none
+--   demuxed rs        the whole text: four lanes, and the readings that belong to none
 use Rattle.std.specs.Prelude.{◌≡◌, ℕ, zero, suc, ◌+◌, ◌*◌, ◌<◌, ◌≤◌, List, [], ◌++◌, length, codes, decimal, slice_index}
 use Rattle.ps2.specs.declared.refusal.Refusal.TheVariants.{TooManyReadings}
 use Rattle.lanes.specs.Lanes.{lane, untagged, errors}

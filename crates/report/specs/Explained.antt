@@ -1,8 +1,8 @@
 -- A session file in words.
---   words i          a record in words
---   line n at i      the line of record number n, which stands at place at
---   lines n at is e  the lines of the records is from there on, n before them, and of the ending e
---   explained file   the whole text
+--   words i           a record in words
+--   line n at i       the line of record number n, which stands at place at
+--   lines n at is e   the lines of the records is from there on, n before them, and of the ending e
+--   explained file    the whole text
 use Rattle.std.specs.Prelude.{ℕ, ◌+◌, cond, List, [], ◌∷◌, ◌++◌, length, ℤ, codes, decimal, ◌==◌}
 use Rattle.std.specs.Fmt.{signed_decimal}
 use Rattle.ps2.specs.Refusals.{number_of, meaning_of}

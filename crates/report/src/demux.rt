@@ -6,7 +6,6 @@ ghost use Rattle.report.specs.Demuxed.{reading_of, lane_text, untagged_text, Don
 use crate::failure::Failure;
 use lanes::lane::{Untagged, count_untagged, fill_lane, lane_size};
 use std::alloc::{AllocError, Global};
-use std::fmt;
 use text::HexBytes;
 
 const PORTS: u8 = 4;

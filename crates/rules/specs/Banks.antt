@@ -1,9 +1,9 @@
 -- Banks: the five devices, each of a kind of its own.
---   Kinds, Values K          five kinds, and a value of each
---   ask v l q none           what the device of a line tells; none where a line has no device
---   change v n f             the devices after a change of the one at the line of number n
---   powered v                all of them powered up
---   port_kind K p, port_value  the kind and the value at a port
+--   Kinds, Values K             five kinds, and a value of each
+--   ask v l q none              what the device of a line tells; none where a line has no device
+--   change v n f                the devices after a change of the one at the line of number n
+--   powered v                   all of them powered up
+--   port_kind K p, port_value   the kind and the value at a port
 use Rattle.std.specs.Prelude.{ℕ, cond, ◌==◌}
 use Rattle.ps2.specs.Kinds.{Kind}
 use Rattle.parts.specs.declared.lines.Port.{Port}

@@ -1,5 +1,5 @@
 -- Calls: what each call answers, and the state after it.
---   became r t s      the state after an answer: t, or s as it was where the call is refused
+--   became r t s   the state after an answer: t, or s as it was where the call is refused
 --   read_answer, read_after; command_answer, command_after; data_answer, data_after; event_answer, event_after
 use Rattle.std.specs.Prelude.{ℕ, Bool, true, false, not, ◌&&◌, Some, None, Ok, Err, Option, Result}
 use Rattle.ps2.specs.declared.refusal.Refusal.{Refusal}

@@ -1,15 +1,15 @@
 -- Histories: the calls made of one controller with their answers, the latest last, and what is read from them.
---   Call                  a call with its answer
---   History               the calls so far
---   after v h             the controller that is new above the devices v, after these calls
---   Truthful v h          each answer is the one that the controller gives
---   last_write h           the last accepted write
---   last_carried h         the host byte that was carried out last
---   arguments h           the sequence's arguments that were carried out, the latest first
---   steps p h             the port's own steps since the last turn answering 3
---   reads v p h           what was read under the port's tag since then
---   opening h, since h    the calls up to that turn, and those after it
---   lone v p h            the port's device alone on a cable, with those steps
+--   Call                 a call with its answer
+--   History              the calls so far
+--   after v h            the controller that is new above the devices v, after these calls
+--   Truthful v h         each answer is the one that the controller gives
+--   last_write h         the last accepted write
+--   last_carried h       the host byte that was carried out last
+--   arguments h          the sequence's arguments that were carried out, the latest first
+--   steps p h            the port's own steps since the last turn answering 3
+--   reads v p h          what was read under the port's tag since then
+--   opening h, since h   the calls up to that turn, and those after it
+--   lone v p h           the port's device alone on a cable, with those steps
 use Rattle.std.specs.Prelude.{◌≡◌, ℕ, suc, ◌-◌, Bool, true, false, cond, ◌&&◌, ◌||◌, List, [], ◌∷◌, ◌++◌, Some, None, Ok, Err, Option, Result, ◌==◌, nat_le}
 use Rattle.ps2.specs.declared.entry.Entry.{Entry}
 use Rattle.ps2.specs.declared.refusal.Refusal.{Refusal}

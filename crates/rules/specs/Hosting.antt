@@ -1,10 +1,10 @@
 -- Hosting: what a host byte does.
---   revert s         Legacy mode; entries of lines 1 to 3 are thrown away, held or in the output buffer
---   obey c s         a command does what the table says
---   argue b s        an argument of the sequence: it is held at port 0, or 11h in its place
---   deliver a b s    a data byte goes to what awaits it
---   carry_out w s     the byte does its work and leaves the input buffer
---   blocked w s      it stays while the held place that it needs is full
+--   revert s        Legacy mode; entries of lines 1 to 3 are thrown away, held or in the output buffer
+--   obey c s        a command does what the table says
+--   argue b s       an argument of the sequence: it is held at port 0, or 11h in its place
+--   deliver a b s   a data byte goes to what awaits it
+--   carry_out w s   the byte does its work and leaves the input buffer
+--   blocked w s     it stays while the held place that it needs is full
 use Rattle.std.specs.Prelude.{ℕ, Bool, false, cond, Some, None, Option}
 use Rattle.ps2.specs.declared.entry.Entry.TheVariants.{Byte}
 use Rattle.parts.specs.declared.lines.Line.{Line}

@@ -1,16 +1,16 @@
 -- The law of runs: the controller never mixes up, loses or starves a port.
---   Spans       a span is open behind a history: a turn answered 3, and none answered 3 or 4 since
---   Faithful    what was read under the port's tag, then what waits under it, is what its device gives alone on a cable;
---               the device and the held place end the same
---   Unspoilt    each send and each force in a span finds the port's held place empty
---   Genuine     each byte read under the tag was held at the port or given by its device at a turn of the span that
---               answered the port, or was its output entry when the span began
---   Fair        any seven bytes read in a row in a span include one of each port that had something to give at every
---               turn meanwhile
---   Reached     a controller, new above the devices v, went through the history h and is in the state s
---   Kept        the call x leads from s to t: every history that led to s goes on to t by it; and the controller
---               multiplexes exactly where a span is open, and then the law holds
---   Stands      the same of a state, behind every history that led to it
+--   Spans      a span is open behind a history: a turn answered 3, and none answered 3 or 4 since
+--   Faithful   what was read under the port's tag, then what waits under it, is what its device gives alone on a cable;
+--              the device and the held place end the same
+--   Unspoilt   each send and each force in a span finds the port's held place empty
+--   Genuine    each byte read under the tag was held at the port or given by its device at a turn of the span that
+--              answered the port, or was its output entry when the span began
+--   Fair       any seven bytes read in a row in a span include one of each port that had something to give at every
+--              turn meanwhile
+--   Reached    a controller, new above the devices v, went through the history h and is in the state s
+--   Kept       the call x leads from s to t: every history that led to s goes on to t by it; and the controller
+--              multiplexes exactly where a span is open, and then the law holds
+--   Stands     the same of a state, behind every history that led to it
 use Rattle.std.specs.Prelude.{◌≡◌, true, ◌⊎◌, List, [], ◌∷◌, ◌++◌, map, Some, None}
 use Rattle.ps2.specs.declared.entry.Entry.{Entry}
 use Rattle.parts.specs.declared.lines.Line.TheVariants.{Aux}

@@ -1,8 +1,8 @@
 -- A lone cable: a device with one held place, and the list of what was heard from it.
---   Cable k           the cable of a device of kind k
---   Step              what happens on it
---   play c x          a step; play_all c xs, a list of them, the first one first
---   TakenAt c e       a take moves this entry: it is held, or else the device's next
+--   Cable k       the cable of a device of kind k
+--   Step          what happens on it
+--   play c x      a step; play_all c xs, a list of them, the first one first
+--   TakenAt c e   a take moves this entry: it is held, or else the device's next
 use Rattle.std.specs.Prelude.{◌≡◌, ℕ, Bool, true, false, ◌⊎◌, List, [], ◌∷◌, ◌++◌, Some, None, Option}
 use Rattle.ps2.specs.declared.entry.Entry.{Entry}
 use Rattle.ps2.specs.declared.entry.Entry.TheVariants.{Byte, Timeout}

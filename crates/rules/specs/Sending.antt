@@ -1,6 +1,6 @@
 -- Sending: entries that come to be held, and bytes that go to a device.
---   hold l e s    an entry comes to be held at a line
---   send l b s    a byte is sent to a line's device; if it is not taken, a timeout is held there
+--   hold l e s   an entry comes to be held at a line
+--   send l b s   a byte is sent to a line's device; if it is not taken, a timeout is held there
 use Rattle.std.specs.Prelude.{ℕ, Bool, true, false, Some}
 use Rattle.ps2.specs.declared.entry.Entry.{Entry}
 use Rattle.ps2.specs.declared.entry.Entry.TheVariants.{Timeout}

@@ -1,7 +1,7 @@
 -- States: all that a controller keeps.
---   State K       a controller above devices of the five kinds K
---   power_on v     a new one: Legacy mode, each number and flag 0, the rest empty, devices powered up
---   with..        the same state but for one part
+--   State K      a controller above devices of the five kinds K
+--   power_on v   a new one: Legacy mode, each number and flag 0, the rest empty, devices powered up
+--   with_..      the same state but for one part
 use Rattle.std.specs.Prelude.{None, Option}
 use Rattle.parts.specs.declared.lines.Line.{Line}
 use Rattle.parts.specs.declared.lines.Line.TheVariants.{Aux}

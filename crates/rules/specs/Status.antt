@@ -1,8 +1,8 @@
 -- Status: the byte at port 64h, and what a host sees in it.
---   status s            bit 0 output buffer full, bit 1 input buffer full, bits 7 to 2 by the output entry
---   interrupts s        IRQ 1 and IRQ 12
---   tagged p n          a status names the port: bits 0 and 5 set, the port's number in bits 7 and 6
---   error_bit n          bit 2
+--   status s       bit 0 output buffer full, bit 1 input buffer full, bits 7 to 2 by the output entry
+--   interrupts s   IRQ 1 and IRQ 12
+--   tagged p n     a status names the port: bits 0 and 5 set, the port's number in bits 7 and 6
+--   error_bit n    bit 2
 use Rattle.std.specs.Prelude.{ℕ, ◌+◌, ◌/◌, ◌%◌, Bool, true, false, not, ◌&&◌, Some, None, Option, ◌==◌}
 use Rattle.parts.specs.declared.lines.Port.{Port}
 use Rattle.parts.specs.declared.settings.Mode.{Mode}

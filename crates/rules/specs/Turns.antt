@@ -1,7 +1,7 @@
 -- Turns: first the waiting host byte; then, unless the mode changed, an empty output buffer is filled.
---   carried, hosted   what became of the host byte, and the state after it
---   gives s l         whether a line has something to give: a held entry, or one in the device of an open line
---   fill_line, filled  the line that an empty output buffer is filled from, and the state after it
+--   carried, hosted     what became of the host byte, and the state after it
+--   gives s l           whether a line has something to give: a held entry, or one in the device of an open line
+--   fill_line, filled   the line that an empty output buffer is filled from, and the state after it
 --   turn_answer s, turn_after s
 use Rattle.std.specs.Prelude.{Bool, true, false, ◌&&◌, ◌||◌, Some, None, Option}
 use Rattle.ps2.specs.declared.entry.Entry.{Entry}

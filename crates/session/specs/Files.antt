@@ -1,9 +1,9 @@
 -- Files: the records of a session file, and how it ends.
---   first bs        the record at the front of some bytes, or why there is none
---   session bs      all records of some bytes, and their ending
---   session_of file  the same of a whole file, which may be too long or empty
---   answered s      what a reader answers that has s before it
---   behind s        s without its first record
+--   first bs          the record at the front of some bytes, or why there is none
+--   session bs        all records of some bytes, and their ending
+--   session_of file   the same of a whole file, which may be too long or empty
+--   answered s        what a reader answers that has s before it
+--   behind s          s without its first record
 use Rattle.std.specs.Prelude.{◌≡◌, ℕ, zero, suc, ◌+◌, ◌-◌, cond, List, [], ◌∷◌, length, take, drop, Some, None, Ok, Err, Option, Result, All, ◌==◌, nat_lt}
 use Rattle.std.specs.List.{flat_map}
 use Rattle.ps2.specs.declared.refusal.Refusal.{Refusal}

@@ -1,6 +1,6 @@
 -- Readers: where a reader stands in its file, and what it has handed out.
---   file_of r      the whole file
---   left_of r      the bytes it has not read
+--   file_of r     the whole file
+--   left_of r     the bytes it has not read
 --   Handed is r   the records is, each with its header, joined in order, are the bytes it has read: then come those left
 use Rattle.std.specs.Prelude.{◌≡◌, ℕ, ◌+◌, ◌<◌, ◌≤◌, List, [], ◌∷◌, ◌++◌, length, drop, Some, None, Ok, Err, Option, Result}
 use Rattle.std.specs.Borrow.{Bor}

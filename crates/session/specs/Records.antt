@@ -1,11 +1,11 @@
 -- Records: what one record says, and the bytes that say it.
---   Item             a record as a value, its borrowed bytes read
---   item_of r         the value of a record of the code
---   kind_of i         its kind's number
---   payload_of i      its fields as bytes, low byte first, signed ones in two's complement
---   bytes_of i        the record in a file: payload length, kind, payload
---   Valid i          whether its signed fields and its stroke fit their places
---   said k bs        what a payload bs of kind k says; refused if there is no such kind, or not of that length
+--   Item           a record as a value, its borrowed bytes read
+--   item_of r      the value of a record of the code
+--   kind_of i      its kind's number
+--   payload_of i   its fields as bytes, low byte first, signed ones in two's complement
+--   bytes_of i     the record in a file: payload length, kind, payload
+--   Valid i        whether its signed fields and its stroke fit their places
+--   said k bs      what a payload bs of kind k says; refused if there is no such kind, or not of that length
 use Rattle.std.specs.Prelude.{ℕ, ◌+◌, ◌*◌, ◌/◌, ◌%◌, ◌≤◌, Bool, cond, ◌&&◌, List, [], ◌∷◌, ◌++◌, length, drop, ℤ, Ok, Err, Result, FitsSigned, ◌==◌, nat_le, slice_index}
 use Rattle.std.specs.Int.{w8, w16}
 use Rattle.std.proofs.Common.{to_z, of_z}

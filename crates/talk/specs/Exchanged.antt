@@ -1,13 +1,13 @@
 -- A talk with a mouse, as text.
---   acted s m          a mouse after a step
---   playing s m        the same where there may be none yet: only a power-up brings one
---   answer m           what waits in a mouse, in hexadecimal
---   drained m          the mouse once all of that is given
---   step_line l s m     the line of a step: a note as it is; else the step, an arrow and the answer
---   taken r m          the step of a line, read as r, with the mouse that it leaves; or a fault
---   fault_line n f      the line of a fault in line number n
---   played n m ls      the text of the lines ls, with n lines before them
---   exchanged t        the whole text
+--   acted s m         a mouse after a step
+--   playing s m       the same where there may be none yet: only a power-up brings one
+--   answer m          what waits in a mouse, in hexadecimal
+--   drained m         the mouse once all of that is given
+--   step_line l s m   the line of a step: a note as it is; else the step, an arrow and the answer
+--   taken r m         the step of a line, read as r, with the mouse that it leaves; or a fault
+--   fault_line n f    the line of a fault in line number n
+--   played n m ls     the text of the lines ls, with n lines before them
+--   exchanged t       the whole text
 use Rattle.std.specs.Prelude.{ℕ, ◌+◌, false, List, [], ◌∷◌, ◌++◌, map, Some, None, Ok, Err, codes, decimal, Option, Result}
 use Rattle.ps2.specs.declared.entry.Entry.{Entry}
 use Rattle.ps2.specs.Entries.{shows}

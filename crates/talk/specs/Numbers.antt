@@ -1,10 +1,10 @@
 -- Numbers in a line.
---   nibble_of c      the value of a hexadecimal digit
---   byte_of t        a byte of two hexadecimal digits
---   one_more n c     a number with one decimal digit more; all above 999 count as 1000
---   digits_of t      the number that decimal digits make
---   count_of t       the same, of one digit or more
---   number_of t      the same, behind a minus sign or not
+--   nibble_of c    the value of a hexadecimal digit
+--   byte_of t      a byte of two hexadecimal digits
+--   one_more n c   a number with one decimal digit more; all above 999 count as 1000
+--   digits_of t    the number that decimal digits make
+--   count_of t     the same, of one digit or more
+--   number_of t    the same, behind a minus sign or not
 use Rattle.std.specs.Prelude.{ℕ, ◌+◌, ◌-◌, ◌*◌, ◌≤◌, min, Bool, true, false, cond, ◌&&◌, List, length, drop, ℤ, pos, neg_ℤ, Some, None, fold, Option, ◌==◌, nat_le, slice_index}
 
 abbrev pub within : ℕ → ℕ → ℕ → Bool

@@ -1,10 +1,10 @@
 -- Steps: what a line asks for.
 --   ranged x y w b   a movement, its numbers in range or not
---   move_of t         the movement of four numbers, with one space between them
---   host_of b         a byte from the host
---   action_of w t     what the word w asks for, with t behind it
---   is_note t         whether a line is empty or begins with #
---   step_of t         the step of a line
+--   move_of t        the movement of four numbers, with one space between them
+--   host_of b        a byte from the host
+--   action_of w t    what the word w asks for, with t behind it
+--   is_note t        whether a line is empty or begins with #
+--   step_of t        the step of a line
 use Rattle.std.specs.Prelude.{ℕ, Bool, cond, ◌||◌, List, length, ℤ, Some, None, Ok, Err, codes, Option, Result, ◌==◌, slice_index}
 use Rattle.std.specs.Str.{bytes_eq}
 use Rattle.mouse.specs.declared.settings.Variant.TheVariants.{Plain, Wheel}

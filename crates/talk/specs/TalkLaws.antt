@@ -1,7 +1,7 @@
 -- What holds of a talk, in other words than its rules.
---   Quiet m    nothing waits in the mouse, if there is one
---   Shown s    a step that is no note, its numbers in range
---   Laws       all of it together
+--   Quiet m   nothing waits in the mouse, if there is one
+--   Shown s   a step that is no note, its numbers in range
+--   Laws      all of it together
 use Rattle.std.specs.Prelude.{◌≡◌, ℕ, ◌<◌, true, List, [], ◌∷◌, ◌++◌, Some, None, Ok, Option}
 use Rattle.ps2.specs.Events.{movement, in_range}
 use Rattle.mouse.specs.declared.mouse.Mouse.{Mouse}

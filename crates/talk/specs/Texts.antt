@@ -1,7 +1,7 @@
 -- Texts, taken apart at a character.
---   before c t    the text t up to its first c
---   behind c t    what follows that c
---   lines_of t     its lines; the last need not be ended
+--   before c t   the text t up to its first c
+--   behind c t   what follows that c
+--   lines_of t   its lines; the last need not be ended
 use Rattle.std.specs.Prelude.{ℕ, cond, List, [], ◌∷◌, ◌==◌}
 
 unfoldable pub before : ℕ → List ℕ → List ℕ

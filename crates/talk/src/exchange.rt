@@ -13,7 +13,6 @@ use mouse::mouse::Mouse;
 use ps2::device::Device;
 use ps2::entry::Entry;
 use std::alloc::{AllocError, Global};
-use std::fmt;
 use text::Hex;
 
 // What a step does to a mouse that is there.

@@ -1,5 +1,5 @@
 -- Hexadecimal text.
---   hex_digit n    the character of a digit below 16, in lower case
+--   hex_digit n   the character of a digit below 16, in lower case
 --   hex b         a byte as two digits
 --   spaced bs     each byte as a space and two digits
 use Rattle.std.specs.Prelude.{ℕ, ◌+◌, ◌/◌, ◌%◌, cond, List, [], ◌∷◌, nat_lt}
