@@ -1,9 +1,10 @@
 -- Worked cases: what the rules give on examples, beside what is expected of them.
---   Case          what the rules give, and what is expected, both as numbers or as text
---   five_boards   a new controller above five boards
---   says s is     what playing some records answers, as text
---   mouseSays     what waits in a plain mouse after host bytes and movements
---   cases         all of them; passes cases tells whether each is as expected
+--   Case                what the rules give, and what is expected, both as numbers or as text
+--   five_boards         a new controller above five boards
+--   says s is           what playing some records answers, as text
+--   at_boards is text   a case: what playing records on five boards answers
+--   at_mouse m bytes    a case: the bytes that wait in a mouse
+--   cases               all of them; passes cases tells whether each is as expected
 use Rattle.std.specs.Prelude.{ℕ, ◌+◌, ◌/◌, ◌%◌, Bool, true, false, ◌&&◌, List, [], ◌∷◌, ◌++◌, map, ℤ, pos, negsuc, Some, None, codes, ◌==◌}
 use Rattle.ps2.specs.Entries.{shows}
 use Rattle.ps2.specs.Refusals.{number_of}
