@@ -5,8 +5,7 @@ use Rattle.ps2.specs.Entries.{ahead}
 use Rattle.ps2.specs.Events.{movement, stroke, pull, plug}
 use Rattle.ps2.specs.Kinds.{first, chosen}
 use Rattle.ps2.specs.Runs.{Call, gives, receives, happens, Ran, begun, giving, receiving, happening}
-use Rattle.devices.specs.Boards.{BoardValue, board_given, board_happened, board_kind}
-use Rattle.devices.specs.Queues.{fits}
+use Rattle.devices.specs.Boards.{BoardValue, fits, board_given, board_happened, board_kind}
 use Rattle.devices.specs.BoardRuns.{owed, strokes_in, strokes_out, taken, acknowledged, LosesNothing}
 
 -- the same by the fields, with what is owed

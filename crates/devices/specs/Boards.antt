@@ -1,14 +1,14 @@
 -- Boards: the kind of a pickup board.
 --   BoardValue   whether an acknowledge waits, and the stroke bytes that wait
 --   blank        nothing waits
+--   fits bs more whether more bytes find a place behind bs: there are 16
 --   board_kind   what waits is the acknowledge, then the strokes; a byte is taken where no acknowledge waits;
 --                a stroke has room where all of it finds a place
-use Rattle.std.specs.Prelude.{◌≡◌, ℕ, Bool, true, false, not, List, [], ◌∷◌, ◌++◌, refl}
+use Rattle.std.specs.Prelude.{◌≡◌, ℕ, ◌+◌, Bool, true, false, not, List, [], ◌∷◌, ◌++◌, length, nat_le, refl}
 use Rattle.ps2.specs.Entries.{ahead}
 use Rattle.ps2.specs.Events.{Happening, movement, stroke, pull, plug}
 use Rattle.ps2.specs.Kinds.{Kind, Model, rest}
 use Rattle.devices.specs.declared.board.Board.{Board}
-use Rattle.devices.specs.Queues.{bytes_of, fits}
 
 pub record BoardValue : Type 0 where
   pub acknowledges : Bool
@@ -20,6 +20,9 @@ blank = record { acknowledges = false; strokes = [] }
 abbrev pub board_given : Bool → List ℕ → BoardValue
 board_given true bs = record { acknowledges = false; strokes = bs }
 board_given false bs = record { acknowledges = false; strokes = rest bs }
+
+abbrev pub fits : List ℕ → List ℕ → Bool
+fits bs more = nat_le (length bs + length more) 16
 
 abbrev pub board_room : BoardValue → Happening → Bool
 board_room v (movement x y w b) = true
@@ -59,4 +62,4 @@ board_kind = record {
 }
 
 abbrev pub board_model : Model Board
-board_model = record { kind = board_kind; meaning = λ b. record { acknowledges = b.acknowledges; strokes = bytes_of b.strokes } }
+board_model = record { kind = board_kind; meaning = λ b. record { acknowledges = b.acknowledges; strokes = b.strokes.items } }

@@ -1,4 +1,3 @@
-pub mod Queues
 pub mod Boards
 pub mod BoardRuns
 pub mod Cables

@@ -3,18 +3,18 @@ ghost use Rattle.std.specs.Prelude.{◌≡◌};
 ghost use Rattle.devices.specs.BoardRuns.{LosesNothing};
 ghost use Rattle.devices.specs.Boards.{blank, board_model};
 
-use crate::queue::Queue;
+use arrayvec::ArrayVec;
 use ps2::device::Device;
-use ps2::entry::Entry;
+use ps2::entry::{ACKNOWLEDGE, Entry};
 use ps2::event::Event;
 use ps2::refusal::Refusal;
 use std::mem;
 
-const ACKNOWLEDGE: u8 = 0xFA;
+const PLACES: usize = 16;
 
 #[derive(Drop)]
 pub struct Board {
-    strokes: Queue,
+    strokes: ArrayVec<u8, PLACES>,
     acknowledges: bool,
 }
 
@@ -25,7 +25,7 @@ impl Board {
         ensures keeps { LosesNothing }
     {
         Board {
-            strokes: Queue::new(),
+            strokes: ArrayVec::new(),
             acknowledges: false,
         }
     }
@@ -47,10 +47,7 @@ impl Device for Board {
         if mem::replace(&mut self.acknowledges, false) {
             return Some(Entry::Byte(ACKNOWLEDGE));
         }
-        match self.strokes.pop() {
-            Some(byte) => Some(Entry::Byte(byte)),
-            None => None,
-        }
+        self.strokes.pop_at(0).map(Entry::Byte)
     }
 
     fn receive(&mut self, _: u8) -> bool {
@@ -63,13 +60,10 @@ impl Device for Board {
 
     fn event(&mut self, event: Event<'_>) -> Result<(), Refusal> {
         match event {
-            Event::Stroke(bytes) => {
-                if self.strokes.enter(bytes) {
-                    Ok(())
-                } else {
-                    Err(Refusal::NoRoom)
-                }
-            }
+            Event::Stroke(bytes) => self
+                .strokes
+                .try_extend_from_slice(bytes)
+                .map_err(|_| Refusal::NoRoom),
             _ => Ok(()),
         }
     }

@@ -3,4 +3,3 @@
 
 pub mod board;
 pub mod cable;
-mod queue;

@@ -5,15 +5,15 @@
 --   commanded c m   the answer to a command
 --   heard m b       the answer to a byte: FFh is a Reset everywhere; else in Wrap mode all but ECh is echoed;
 --                   else it is the argument awaited, or a command
-use Rattle.std.specs.Prelude.{ℕ, Bool, true, false, cond, ◌==◌, nat_le}
+use Rattle.std.specs.Prelude.{ℕ, Bool, true, false, cond, Some, None, Option, ◌==◌, nat_le}
 use Rattle.mouse.specs.declared.packet.Packet.{Packet}
 use Rattle.mouse.specs.declared.packet.Packet.TheVariants.{Empty, One, Two}
 use Rattle.mouse.specs.declared.mouse.Mouse.{Mouse}
 use Rattle.mouse.specs.declared.mouse.Motion.{Motion}
-use Rattle.mouse.specs.declared.mouse.Awaited.{Awaited}
-use Rattle.mouse.specs.declared.mouse.Awaited.TheVariants.{Nothing, Rate, Resolution}
+use Rattle.mouse.specs.declared.mouse.Argument.{Argument}
+use Rattle.mouse.specs.declared.mouse.Argument.TheVariants.{Rate, Resolution}
 use Rattle.mouse.specs.declared.command.Command.{Command}
-use Rattle.mouse.specs.declared.command.Command.TheVariants.{Scale1To1, Scale2To1, SetResolution, StatusRequest, SetStream, ReadData, ResetWrap, SetWrap, SetRemote, GetId, SetRate, Enable, Disable, SetDefaults, Resend, Unlisted}
+use Rattle.mouse.specs.declared.command.Command.TheVariants.{Scale1To1, Scale2To1, SetResolution, StatusRequest, SetStream, ReadData, ResetWrap, SetWrap, SetRemote, GetId, SetRate, Enable, Disable, SetDefaults, Resend}
 use Rattle.mouse.specs.declared.settings.Settings.{Settings}
 use Rattle.mouse.specs.declared.settings.Knock.{Knock}
 use Rattle.mouse.specs.declared.settings.Mode.TheVariants.{Stream, Remote}
@@ -60,7 +60,7 @@ resent m = record {
 abbrev pub with_settings : Settings → Mouse → Mouse
 with_settings s m = record { variant = m.variant; settings = s; dialog = m.dialog; knock = m.knock; motion = m.motion; answer = m.answer }
 
-abbrev pub with_dialog : Bool → Awaited → Mouse → Mouse
+abbrev pub with_dialog : Bool → Option Argument → Mouse → Mouse
 with_dialog w a m = record { variant = m.variant; settings = m.settings; dialog = record { wrapped = w; awaited = a }; knock = m.knock; motion = m.motion; answer = m.answer }
 
 abbrev pub with_knock : Knock → Mouse → Mouse
@@ -76,7 +76,7 @@ data_read m = replied (movement_packet m.knock.id m.motion.counters m.motion.but
 abbrev pub commanded : Command → Mouse → Mouse
 commanded Scale1To1 m = replied Empty (with_settings (doubled_to false m.settings) m)
 commanded Scale2To1 m = replied Empty (with_settings (doubled_to true m.settings) m)
-commanded SetResolution m = replied Empty (with_dialog m.dialog.wrapped Resolution m)
+commanded SetResolution m = replied Empty (with_dialog m.dialog.wrapped (Some Resolution) m)
 commanded StatusRequest m = replied (status_packet m.settings m.motion.buttons) m
 commanded SetStream m = replied Empty (with_settings (mode_to Stream m.settings) m)
 commanded ReadData m = data_read m
@@ -84,12 +84,16 @@ commanded ResetWrap m = replied Empty m
 commanded SetWrap m = replied Empty (with_dialog true m.dialog.awaited m)
 commanded SetRemote m = replied Empty (with_settings (mode_to Remote m.settings) m)
 commanded GetId m = replied (One (id_of m.knock.id)) m
-commanded SetRate m = replied Empty (with_dialog m.dialog.wrapped Rate m)
+commanded SetRate m = replied Empty (with_dialog m.dialog.wrapped (Some Rate) m)
 commanded Enable m = replied Empty (with_settings (reporting_to true m.settings) m)
 commanded Disable m = replied Empty (with_settings (reporting_to false m.settings) m)
 commanded SetDefaults m = replied Empty (with_settings defaults m)
 commanded Resend m = resent m
-commanded Unlisted m = replied Empty m
+
+-- a byte that is not listed sets nothing
+abbrev pub obeyed : Option Command → Mouse → Mouse
+obeyed (Some c) m = commanded c m
+obeyed None m = replied Empty m
 
 -- an argument that is not listed sets nothing
 abbrev pub rated : ℕ → Mouse → Mouse
@@ -99,16 +103,16 @@ abbrev pub resolved : ℕ → Mouse → Mouse
 resolved r m = cond (nat_le r 3) (with_settings (resolution_to r m.settings) m) m
 
 abbrev pub argued : Mouse → Mouse
-argued m = replied Empty (with_dialog m.dialog.wrapped Nothing m)
+argued m = replied Empty (with_dialog m.dialog.wrapped None m)
 
 abbrev pub wrapped_heard : ℕ → Mouse → Mouse
 wrapped_heard b m = cond (b == 0xEC) (replied Empty (with_dialog false m.dialog.awaited m)) (echoed b m)
 
-abbrev pub heard_in : Bool → Awaited → ℕ → Mouse → Mouse
+abbrev pub heard_in : Bool → Option Argument → ℕ → Mouse → Mouse
 heard_in true a b m = wrapped_heard b m
-heard_in false Nothing b m = commanded (command_of b) m
-heard_in false Rate b m = argued (rated b m)
-heard_in false Resolution b m = argued (resolved b m)
+heard_in false None b m = obeyed (command_of b) m
+heard_in false (Some Rate) b m = argued (rated b m)
+heard_in false (Some Resolution) b m = argued (resolved b m)
 
 abbrev pub heard : Mouse → ℕ → Mouse
 heard m b = cond (b == 0xFF) (began m.variant true) (heard_in m.dialog.wrapped m.dialog.awaited b m)

@@ -1,7 +1,7 @@
 -- The kind of a mouse. Its values are the mice themselves.
 --   mouse_waiting m   the acknowledge, then the packet
 --   mouse_kind        every host byte is taken, every event has room; only movements matter
-use Rattle.std.specs.Prelude.{◌≡◌, ℕ, Bool, true, false, cond, List, [], ◌==◌, refl}
+use Rattle.std.specs.Prelude.{◌≡◌, ℕ, Bool, true, false, cond, List, [], Some, None, Option, ◌==◌, refl}
 use Rattle.std.proofs.Common.{ap}
 use Rattle.ps2.specs.declared.entry.Entry.{Entry}
 use Rattle.ps2.specs.Entries.{ahead}
@@ -13,12 +13,12 @@ use Rattle.mouse.specs.declared.mouse.Mouse.{Mouse}
 use Rattle.mouse.specs.declared.mouse.Answer.{Answer}
 use Rattle.mouse.specs.Packets.{bytes_of, behind, or_else}
 use Rattle.mouse.specs.Mice.{began}
-use Rattle.mouse.specs.declared.mouse.Awaited.{Awaited}
-use Rattle.mouse.specs.declared.mouse.Awaited.TheVariants.{Nothing, Rate, Resolution}
+use Rattle.mouse.specs.declared.mouse.Argument.{Argument}
+use Rattle.mouse.specs.declared.mouse.Argument.TheVariants.{Rate, Resolution}
 use Rattle.mouse.specs.declared.command.Command.{Command}
-use Rattle.mouse.specs.declared.command.Command.TheVariants.{Scale1To1, Scale2To1, SetResolution, StatusRequest, SetStream, ReadData, ResetWrap, SetWrap, SetRemote, GetId, SetRate, Enable, Disable, SetDefaults, Resend, Unlisted}
+use Rattle.mouse.specs.declared.command.Command.TheVariants.{Scale1To1, Scale2To1, SetResolution, StatusRequest, SetStream, ReadData, ResetWrap, SetWrap, SetRemote, GetId, SetRate, Enable, Disable, SetDefaults, Resend}
 use Rattle.mouse.specs.Commands.{command_of}
-use Rattle.mouse.specs.Hearing.{replied, echoed, with_dialog, commanded, heard_in, heard}
+use Rattle.mouse.specs.Hearing.{replied, echoed, with_dialog, commanded, obeyed, heard_in, heard}
 use Rattle.mouse.specs.Moving.{moved}
 
 abbrev pub answer_waiting : Bool → Packet → List Entry
@@ -83,17 +83,20 @@ commanded_waits Enable m = refl
 commanded_waits Disable m = refl
 commanded_waits SetDefaults m = refl
 commanded_waits Resend m = resent_waits m.answer.last
-commanded_waits Unlisted m = refl
+
+pub obeyed_waits : (c : Option Command) (m : Mouse) → nonempty (mouse_waiting (obeyed c m)) ≡ true
+obeyed_waits (Some c) m = commanded_waits c m
+obeyed_waits None m = refl
 
 pub wrapped_waits : (t : Bool) (b : ℕ) (m : Mouse) → nonempty (mouse_waiting (cond t (replied Empty (with_dialog false m.dialog.awaited m)) (echoed b m))) ≡ true
 wrapped_waits true b m = refl
 wrapped_waits false b m = refl
 
-pub heard_in_waits : (w : Bool) (a : Awaited) (b : ℕ) (m : Mouse) → nonempty (mouse_waiting (heard_in w a b m)) ≡ true
+pub heard_in_waits : (w : Bool) (a : Option Argument) (b : ℕ) (m : Mouse) → nonempty (mouse_waiting (heard_in w a b m)) ≡ true
 heard_in_waits true a b m = wrapped_waits (b == 0xEC) b m
-heard_in_waits false Nothing b m = commanded_waits (command_of b) m
-heard_in_waits false Rate b m = refl
-heard_in_waits false Resolution b m = refl
+heard_in_waits false None b m = obeyed_waits (command_of b) m
+heard_in_waits false (Some Rate) b m = refl
+heard_in_waits false (Some Resolution) b m = refl
 
 pub heard_waits : (t : Bool) (b : ℕ) (m : Mouse) → nonempty (mouse_waiting (cond t (began m.variant true) (heard_in m.dialog.wrapped m.dialog.awaited b m))) ≡ true
 heard_waits true b m = refl

@@ -19,15 +19,14 @@ pub(crate) enum Command {
     Disable,
     SetDefaults,
     Resend,
-    Unlisted,
 }
 
 impl Command {
-    // FFh, the Reset, is told apart before this.
-    pub(crate) fn of(byte: u8) -> Command
+    // The command of a byte, if one is listed. FFh, the Reset, is told apart before this.
+    pub(crate) fn of(byte: u8) -> Option<Command>
         ensures { result ≡ command_of byte }
     {
-        match byte {
+        let command = match byte {
             0xE6 => Command::Scale1To1,
             0xE7 => Command::Scale2To1,
             0xE8 => Command::SetResolution,
@@ -43,7 +42,8 @@ impl Command {
             0xF5 => Command::Disable,
             0xF6 => Command::SetDefaults,
             0xFE => Command::Resend,
-            _ => Command::Unlisted,
-        }
+            _ => return None,
+        };
+        Some(command)
     }
 }

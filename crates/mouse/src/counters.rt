@@ -24,7 +24,7 @@ impl Axis {
             return self;
         }
         let sum = i32::from(self.count) + i32::from(by);
-        if sum < -255 || sum > 255 {
+        if !(-255..=255).contains(&sum) {
             return Axis {
                 count: self.count,
                 overflow: true,
@@ -41,12 +41,6 @@ impl Axis {
 pub(crate) fn wheel_moved(count: i8, by: i8) -> i8
     ensures { result ≡ wheel_moved count by }
 {
-    let sum = i16::from(count) + i16::from(by);
-    if sum < -8 {
-        -8
-    } else if sum > 7 {
-        7
-    } else {
-        sum as i8
-    }
+    // saturating loses nothing: the clamp is narrower
+    count.saturating_add(by).clamp(-8, 7)
 }

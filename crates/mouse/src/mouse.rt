@@ -11,9 +11,9 @@ mod hearing;
 mod mouse_device;
 mod moving;
 
+// What a command is followed by.
 #[derive(Clone, Copy)]
-enum Awaited {
-    Nothing,
+enum Argument {
     Rate,
     Resolution,
 }
@@ -22,7 +22,7 @@ enum Awaited {
 #[derive(Clone, Copy)]
 struct Dialog {
     wrapped: bool,
-    awaited: Awaited,
+    awaited: Option<Argument>,
 }
 
 // What was sampled since the last packet, and the buttons that were last reported.
@@ -50,8 +50,6 @@ pub struct Mouse {
     motion: Motion,
     answer: Answer,
 }
-
-const ACKNOWLEDGE: u8 = 0xFA;
 
 const STILL: Axis = Axis {
     count: 0,
@@ -85,7 +83,7 @@ fn begun(variant: Variant, acknowledges: bool) -> Mouse
         settings: Settings::defaults(),
         dialog: Dialog {
             wrapped: false,
-            awaited: Awaited::Nothing,
+            awaited: None,
         },
         knock: Knock {
             id: Identity::Standard,

@@ -16,10 +16,7 @@ impl Packet {
     pub(crate) fn is_empty(self) -> bool
         ensures { result ≡ not (nonempty (bytes_of self)) }
     {
-        match self {
-            Packet::Empty => true,
-            _ => false,
-        }
+        matches!(self, Packet::Empty)
     }
 
     // This packet, or the other where it is empty.

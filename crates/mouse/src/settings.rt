@@ -9,7 +9,7 @@ pub enum Variant {
     Wheel,
 }
 
-#[derive(Clone, Copy)]
+#[derive(Clone, Copy, PartialEq, Eq)]
 pub(crate) enum Mode {
     Stream,
     Remote,
@@ -18,9 +18,9 @@ pub(crate) enum Mode {
 // What the mouse says it is: this decides the form of its packets.
 #[derive(Clone, Copy)]
 pub(crate) enum Identity {
-    Standard,
-    Wheel,
-    FiveButtons,
+    Standard = 0,
+    Wheel = 3,
+    FiveButtons = 4,
 }
 
 #[derive(Clone, Copy)]
@@ -43,11 +43,7 @@ impl Identity {
     pub(crate) fn number(self) -> u8
         ensures { result ≡ id_of self }
     {
-        match self {
-            Identity::Standard => 0,
-            Identity::Wheel => 3,
-            Identity::FiveButtons => 4,
-        }
+        self as u8
     }
 }
 
@@ -68,10 +64,7 @@ impl Settings {
 pub(crate) fn is_rate(rate: u8) -> bool
     ensures { result ≡ listed_rate rate }
 {
-    match rate {
-        10 | 20 | 40 | 60 | 80 | 100 | 200 => true,
-        _ => false,
-    }
+    matches!(rate, 10 | 20 | 40 | 60 | 80 | 100 | 200)
 }
 
 impl Knock {

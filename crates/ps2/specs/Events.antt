@@ -13,7 +13,7 @@ pub data Happening : Type 0 where
   plug : Happening
 
 abbrev pub told : Event → Happening
-told (Movement x y w b) = movement x y w b
+told (Movement m) = movement m.dx m.dy m.wheel m.buttons
 told (Stroke bs) = stroke bs.now
 told Pull = pull
 told Plug = plug

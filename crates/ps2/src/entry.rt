@@ -2,6 +2,9 @@
 ghost use Rattle.std.specs.Prelude.{◌≡◌};
 ghost use Rattle.ps2.specs.Entries.{shows};
 
+// The byte by which a device acknowledges a host byte.
+pub const ACKNOWLEDGE: u8 = 0xFA;
+
 #[derive(Clone, Copy, PartialEq, Eq, Debug)]
 pub enum Entry {
     Byte(u8),

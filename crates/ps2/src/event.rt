@@ -1,15 +1,19 @@
-// What happens to a device from outside. Buttons: bit 0 left, 1 right, 2 middle, 3 fourth, 4 fifth.
+// What happens to a device from outside.
 ghost use Rattle.std.specs.Prelude.{◌≡◌};
 ghost use Rattle.ps2.specs.Events.{told, axis_in_range, wheel_in_range, movement_in_range, in_range};
 
+// Buttons: bit 0 left, 1 right, 2 middle, 3 fourth, 4 fifth.
+#[derive(Clone, Copy, PartialEq, Eq, Debug)]
+pub struct Movement {
+    pub dx: i16,
+    pub dy: i16,
+    pub wheel: i8,
+    pub buttons: u8,
+}
+
 #[derive(Clone, Copy)]
 pub enum Event<'a> {
-    Movement {
-        dx: i16,
-        dy: i16,
-        wheel: i8,
-        buttons: u8,
-    },
+    Movement(Movement),
     Stroke(&'a [u8]),
     Pull,
     Plug,
@@ -18,19 +22,25 @@ pub enum Event<'a> {
 fn is_axis(counts: i16) -> bool
     ensures { result ≡ axis_in_range counts }
 {
-    counts >= -255 && counts <= 255
+    (-255..=255).contains(&counts)
 }
 
 fn is_wheel(steps: i8) -> bool
     ensures { result ≡ wheel_in_range steps }
 {
-    steps >= -8 && steps <= 7
+    (-8..=7).contains(&steps)
 }
 
-fn is_movement(dx: i16, dy: i16, wheel: i8, buttons: u8) -> bool
-    ensures { result ≡ movement_in_range dx dy wheel buttons }
-{
-    is_axis(dx) && is_axis(dy) && is_wheel(wheel) && buttons <= 31
+impl Movement {
+    // Whether each field is one that a movement may have.
+    pub fn is_in_range(self) -> bool
+        ensures { result ≡ movement_in_range self.dx self.dy self.wheel self.buttons }
+    {
+        if !is_wheel(self.wheel) || self.buttons > 31 {
+            return false;
+        }
+        is_axis(self.dx) && is_axis(self.dy)
+    }
 }
 
 impl<'a> Event<'a> {
@@ -39,13 +49,8 @@ impl<'a> Event<'a> {
         ensures { result ≡ in_range (told self.entry) }
     {
         match self {
-            Event::Movement {
-                dx,
-                dy,
-                wheel,
-                buttons,
-            } => is_movement(dx, dy, wheel, buttons),
-            Event::Stroke(bytes) => bytes.len() >= 1 && bytes.len() <= 16,
+            Event::Movement(movement) => movement.is_in_range(),
+            Event::Stroke(bytes) => (1..=16).contains(&bytes.len()),
             Event::Pull | Event::Plug => true,
         }
     }

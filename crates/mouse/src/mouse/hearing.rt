@@ -1,12 +1,14 @@
 // What the mouse makes of a byte from the host.
 ghost use Rattle.std.specs.Prelude.{◌≡◌};
-ghost use Rattle.mouse.specs.Hearing.{replied, echoed, resent, data_read, commanded, rated, resolved, argued, wrapped_heard, heard_in, heard};
+ghost use Rattle.mouse.specs.Commands.{command_of};
+ghost use Rattle.mouse.specs.Hearing.{replied, echoed, resent, data_read, commanded, obeyed, rated, resolved, argued, wrapped_heard, heard_in, heard};
 
-use super::{ACKNOWLEDGE, Answer, Awaited, Mouse, NO_MOVEMENT, SELF_TEST_PASSED, begun};
+use super::{Answer, Argument, Mouse, NO_MOVEMENT, SELF_TEST_PASSED, begun};
 use crate::command::Command;
 use crate::packet::Packet;
 use crate::report::{movement_packet, shown_buttons, status_packet};
 use crate::settings::{Mode, Settings, is_rate};
+use ps2::entry::ACKNOWLEDGE;
 
 const RESET: u8 = 0xFF;
 
@@ -66,17 +68,27 @@ impl Mouse {
             Command::GetId => return self.reply(Packet::One(self.knock.id.number())),
             Command::Scale1To1 => self.settings.doubled = false,
             Command::Scale2To1 => self.settings.doubled = true,
-            Command::SetResolution => self.dialog.awaited = Awaited::Resolution,
-            Command::SetRate => self.dialog.awaited = Awaited::Rate,
+            Command::SetResolution => self.dialog.awaited = Some(Argument::Resolution),
+            Command::SetRate => self.dialog.awaited = Some(Argument::Rate),
             Command::SetStream => self.settings.mode = Mode::Stream,
             Command::SetRemote => self.settings.mode = Mode::Remote,
             Command::SetWrap => self.dialog.wrapped = true,
             Command::Enable => self.settings.reporting = true,
             Command::Disable => self.settings.reporting = false,
             Command::SetDefaults => self.settings = Settings::defaults(),
-            Command::ResetWrap | Command::Unlisted => {}
+            Command::ResetWrap => {}
         }
         self.reply(Packet::Empty)
+    }
+
+    // A byte in a command's place. An unlisted one sets nothing.
+    fn obey(&mut self, byte: u8)
+        ensures { self.new ≡ obeyed (command_of byte) self.old }
+    {
+        match Command::of(byte) {
+            Some(command) => self.carry_out(command),
+            None => self.reply(Packet::Empty),
+        }
     }
 
     fn set_rate(&mut self, rate: u8)
@@ -99,7 +111,7 @@ impl Mouse {
     fn end_argument(&mut self)
         ensures { self.new ≡ argued self.old }
     {
-        self.dialog.awaited = Awaited::Nothing;
+        self.dialog.awaited = None;
         self.reply(Packet::Empty)
     }
 
@@ -122,12 +134,12 @@ impl Mouse {
             return self.hear_wrapped(byte);
         }
         match self.dialog.awaited {
-            Awaited::Nothing => self.carry_out(Command::of(byte)),
-            Awaited::Rate => {
+            None => self.obey(byte),
+            Some(Argument::Rate) => {
                 self.set_rate(byte);
                 self.end_argument()
             }
-            Awaited::Resolution => {
+            Some(Argument::Resolution) => {
                 self.set_resolution(byte);
                 self.end_argument()
             }

@@ -2,9 +2,9 @@
 ghost use Rattle.std.specs.Prelude.{◌≡◌};
 ghost use Rattle.mouse.specs.MouseKind.{mouse_model};
 
-use super::{ACKNOWLEDGE, Mouse, begun};
+use super::{Mouse, begun};
 use ps2::device::Device;
-use ps2::entry::Entry;
+use ps2::entry::{ACKNOWLEDGE, Entry};
 use ps2::event::Event;
 use ps2::refusal::Refusal;
 use std::mem;
@@ -24,10 +24,7 @@ impl Device for Mouse {
         if mem::replace(&mut self.answer.acknowledges, false) {
             return Some(Entry::Byte(ACKNOWLEDGE));
         }
-        match self.answer.packet.pop() {
-            Some(byte) => Some(Entry::Byte(byte)),
-            None => None,
-        }
+        self.answer.packet.pop().map(Entry::Byte)
     }
 
     // Every byte is taken.
@@ -37,14 +34,8 @@ impl Device for Mouse {
     }
 
     fn event(&mut self, event: Event<'_>) -> Result<(), Refusal> {
-        if let Event::Movement {
-            dx,
-            dy,
-            wheel,
-            buttons,
-        } = event
-        {
-            self.shift(dx, dy, wheel, buttons);
+        if let Event::Movement(movement) = event {
+            self.shift(movement);
         }
         Ok(())
     }

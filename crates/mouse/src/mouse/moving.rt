@@ -1,11 +1,12 @@
 // What the mouse makes of a movement.
 ghost use Rattle.std.specs.Prelude.{◌≡◌};
-ghost use Rattle.mouse.specs.Moving.{wheel_counted, sampled, axis_set, counters_set, streams, silent, news, free, shown_counters, queued, reported, moved};
+ghost use Rattle.mouse.specs.Moving.{wheel_counted, sampled, axis_set, counters_set, silent, news, free, shown_counters, queued, reported, moved};
 
 use super::{Answer, Mouse, NO_MOVEMENT};
 use crate::counters::{Axis, Counters, wheel_moved};
 use crate::report::{movement_packet, shown_buttons};
 use crate::settings::{Identity, Mode};
+use ps2::event::Movement;
 
 impl Axis {
     fn is_set(self) -> bool
@@ -49,17 +50,6 @@ impl Identity {
     }
 }
 
-impl Mode {
-    fn is_stream(self) -> bool
-        ensures { result ≡ streams self }
-    {
-        match self {
-            Mode::Stream => true,
-            Mode::Remote => false,
-        }
-    }
-}
-
 impl Answer {
     fn is_silent(self) -> bool
         ensures { result ≡ silent self }
@@ -69,15 +59,15 @@ impl Answer {
 }
 
 impl Mouse {
-    fn sample(&mut self, dx: i16, dy: i16, wheel: i8, buttons: u8)
-        ensures { self.new ≡ sampled self.old dx dy wheel buttons }
+    fn sample(&mut self, movement: Movement)
+        ensures { self.new ≡ sampled self.old movement.dx movement.dy movement.wheel movement.buttons }
     {
         let counters = self.motion.counters;
-        self.motion.buttons = buttons;
+        self.motion.buttons = movement.buttons;
         self.motion.counters = Counters {
-            x: counters.x.moved(dx),
-            y: counters.y.moved(dy),
-            wheel: self.knock.id.wheel_counted(counters.wheel, wheel),
+            x: counters.x.moved(movement.dx),
+            y: counters.y.moved(movement.dy),
+            wheel: self.knock.id.wheel_counted(counters.wheel, movement.wheel),
         };
     }
 
@@ -91,7 +81,7 @@ impl Mouse {
     fn is_free(&self) -> bool
         ensures { result ≡ free self.now }
     {
-        self.settings.mode.is_stream()
+        self.settings.mode == Mode::Stream
             && !self.dialog.wrapped
             && self.settings.reporting
             && self.answer.is_silent()
@@ -120,10 +110,10 @@ impl Mouse {
         }
     }
 
-    pub(super) fn shift(&mut self, dx: i16, dy: i16, wheel: i8, buttons: u8)
-        ensures { self.new ≡ moved self.old dx dy wheel buttons }
+    pub(super) fn shift(&mut self, movement: Movement)
+        ensures { self.new ≡ moved self.old movement.dx movement.dy movement.wheel movement.buttons }
     {
-        self.sample(dx, dy, wheel, buttons);
+        self.sample(movement);
         self.report();
     }
 }

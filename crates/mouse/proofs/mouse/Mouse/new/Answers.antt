@@ -1,5 +1,5 @@
 use Rattle.mouse.proofs.Laws.{laws}
 use Rattle.mouse.proofs.mouse.Mouse.new.Goals as goal
 
-pub returns : goal.returns
-returns c = record { value = c.begun.ensures; laws = laws }
+pub returns-clause-laws : goal.returns-clause-laws
+returns-clause-laws c = laws
