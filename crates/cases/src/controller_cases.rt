@@ -1,4 +1,5 @@
 // The controller's refusals, its table of commands, and bytes that stay.
+use crate::events::stroke;
 use crate::silent::Silent;
 use controller::Controller;
 use devices::board::Board;
@@ -6,7 +7,6 @@ use kbc::calls::KeyboardController;
 use parts::lines::Line;
 use parts::output::Carried;
 use ps2::device::Device;
-use ps2::event::Event;
 use ps2::refusal::Refusal;
 use std::mem::size_of;
 use std::process::Abort;
@@ -26,10 +26,6 @@ fn silents() -> Controller<Silent, Silent, Silent, Silent, Silent> {
     Controller::new(Silent, Silent, Silent, Silent, Silent)
 }
 
-fn stroke(bytes: &[u8]) -> Event<'_> {
-    Event::Stroke(bytes)
-}
-
 // Writes a command and answers what became of it.
 fn command<C: KeyboardController>(
     rt: &impl Abort,
@@ -37,8 +33,7 @@ fn command<C: KeyboardController>(
     byte: u8,
 ) -> Result<Carried, Fail> {
     assert_eq!(rt; controller.write_command(byte), Ok(()));
-    let (carried, _) = controller.turn();
-    Ok(carried)
+    Ok(controller.turn().0)
 }
 
 // Writes a data byte and answers what became of it.
@@ -48,8 +43,7 @@ fn data<C: KeyboardController>(
     byte: u8,
 ) -> Result<Carried, Fail> {
     assert_eq!(rt; controller.write_data(byte), Ok(()));
-    let (carried, _) = controller.turn();
-    Ok(carried)
+    Ok(controller.turn().0)
 }
 
 // A command with its argument, both carried out.

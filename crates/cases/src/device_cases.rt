@@ -1,4 +1,5 @@
 // Boards, cables and events.
+use crate::events::{movement, stroke};
 use crate::silent::Silent;
 use devices::board::Board;
 use devices::cable::Cable;
@@ -12,28 +13,15 @@ use std::test::*;
 
 const ACKNOWLEDGE: Entry = Entry::Byte(0xFA);
 
-fn moves(dx: i16, dy: i16, wheel: i8, buttons: u8) -> Event<'static> {
-    Event::Movement {
-        dx,
-        dy,
-        wheel,
-        buttons,
-    }
-}
-
-fn stroke(bytes: &[u8]) -> Event<'_> {
-    Event::Stroke(bytes)
-}
-
 #[test]
 fn ranges(rt: HostRuntime) -> Result<(), Fail> {
-    assert!(rt; moves(-255, 255, -8, 31).is_in_range());
-    assert!(rt; moves(255, -255, 7, 0).is_in_range());
-    assert!(rt; !moves(256, 0, 0, 0).is_in_range());
-    assert!(rt; !moves(0, -256, 0, 0).is_in_range());
-    assert!(rt; !moves(0, 0, 8, 0).is_in_range());
-    assert!(rt; !moves(0, 0, -9, 0).is_in_range());
-    assert!(rt; !moves(0, 0, 0, 32).is_in_range());
+    assert!(rt; movement(-255, 255, -8, 31).is_in_range());
+    assert!(rt; movement(255, -255, 7, 0).is_in_range());
+    assert!(rt; !movement(256, 0, 0, 0).is_in_range());
+    assert!(rt; !movement(0, -256, 0, 0).is_in_range());
+    assert!(rt; !movement(0, 0, 8, 0).is_in_range());
+    assert!(rt; !movement(0, 0, -9, 0).is_in_range());
+    assert!(rt; !movement(0, 0, 0, 32).is_in_range());
     assert!(rt; !stroke(&[]).is_in_range());
     assert!(rt; stroke(&[0; 1]).is_in_range());
     assert!(rt; stroke(&[0; 16]).is_in_range());
@@ -63,7 +51,7 @@ fn board_room(rt: HostRuntime) -> Result<(), Fail> {
     // the place of a given byte is free again
     assert_eq!(rt; board.give(), Some(Entry::Byte(1)));
     assert_eq!(rt; board.event(stroke(&[3])), Ok(()));
-    assert_eq!(rt; board.event(moves(1, 1, 1, 1)), Ok(()));
+    assert_eq!(rt; board.event(movement(1, 1, 1, 1)), Ok(()));
     board.power_up();
     assert!(rt; !board.waits());
     assert_eq!(rt; board.give(), None);

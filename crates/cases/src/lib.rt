@@ -6,6 +6,8 @@ mod controller_cases;
 #[cfg(test)]
 mod device_cases;
 #[cfg(test)]
+mod events;
+#[cfg(test)]
 mod exchange_cases;
 #[cfg(test)]
 mod lanes_cases;

@@ -1,9 +1,9 @@
 // The mouse, by the published exchanges and its boundaries.
+use crate::events::movement;
 use mouse::mouse::Mouse;
 use mouse::settings::Variant;
 use ps2::device::Device;
 use ps2::entry::Entry;
-use ps2::event::Event;
 use std::process::Abort;
 use std::test::*;
 
@@ -55,15 +55,6 @@ fn hears(rt: &impl Abort, mouse: &mut Mouse, exchanges: &[Exchange]) -> Result<(
         gives(rt, mouse, *answer)?;
     }
     Ok(())
-}
-
-fn movement(dx: i16, dy: i16, wheel: i8, buttons: u8) -> Event<'static> {
-    Event::Movement {
-        dx,
-        dy,
-        wheel,
-        buttons,
-    }
 }
 
 fn moves(mouse: &mut Mouse, dx: i16, dy: i16, wheel: i8, buttons: u8) {

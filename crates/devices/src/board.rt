@@ -20,6 +20,7 @@ pub struct Board {
 
 impl Board {
     // A board with nothing to say. Of what it accepts it loses nothing, until it is powered up again.
+    #[tactic(auto, using(crate::proofs::Losing::loses_nothing))]
     pub fn new() -> Board
         ensures value { board_model.meaning result ≡ blank }
         ensures keeps { LosesNothing }

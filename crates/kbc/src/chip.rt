@@ -55,30 +55,37 @@ impl<B: Bank> KeyboardController for Chip<B> {
 
     ghost state = { state_of B.Bank.values };
 
+    #[tactic(auto, using(rules::proofs::Laws::status_kept))]
     fn read_status(&self) -> u8 {
         self.status()
     }
 
+    #[tactic(auto, using(rules::proofs::Laws::stands))]
     fn interrupts(&self) -> (bool, bool) {
         self.irqs()
     }
 
+    #[tactic(auto, using(rules::proofs::Laws::read_kept))]
     fn read_data(&mut self) -> Result<u8, Refusal> {
         self.read()
     }
 
+    #[tactic(auto, using(rules::proofs::Laws::command_kept))]
     fn write_command(&mut self, byte: u8) -> Result<(), Refusal> {
         self.accept_command(byte)
     }
 
+    #[tactic(auto, using(rules::proofs::Laws::data_kept))]
     fn write_data(&mut self, byte: u8) -> Result<(), Refusal> {
         self.accept_data(byte)
     }
 
+    #[tactic(auto, using(rules::proofs::Laws::event_kept))]
     fn event(&mut self, line: u8, event: Event<'_>) -> Result<(), Refusal> {
         self.tell(line, event)
     }
 
+    #[tactic(auto, using(rules::proofs::Laws::turn_kept))]
     fn turn(&mut self) -> (Carried, Option<Line>) {
         self.advance()
     }

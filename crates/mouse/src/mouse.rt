@@ -66,6 +66,7 @@ const SELF_TEST_PASSED: Packet = Packet::Two(0xAA, 0x00);
 
 impl Mouse {
     // A mouse that was just powered up.
+    #[tactic(auto, using(crate::proofs::Laws::laws))]
     pub fn new(variant: Variant) -> Mouse
         ensures value { result ≡ began variant false }
         ensures laws { Laws }

@@ -6,7 +6,7 @@
 --                 held and a byte that is sent its own line
 use Rattle.std.specs.Prelude.{ℕ, ◌-◌, Bool, cond, ◌&&◌, Some, None, Option, ◌==◌, nat_le}
 use Rattle.parts.specs.declared.dialog.Awaited.{Awaited}
-use Rattle.parts.specs.declared.dialog.Awaited.TheVariants.{Nothing, CommandByte, KeyboardLoopback, AuxLoopback, AuxSend, Route}
+use Rattle.parts.specs.declared.dialog.Awaited.TheVariants.{CommandByte, KeyboardLoopback, AuxLoopback, AuxSend, Route}
 use Rattle.parts.specs.declared.settings.Gate.{Gate}
 use Rattle.parts.specs.declared.settings.Gate.TheVariants as gate
 use Rattle.parts.specs.declared.dialog.Command.{Command}
@@ -23,25 +23,25 @@ use Rattle.parts.specs.Lines.{port_at}
 
 -- nothing written, nothing awaited, place 0
 abbrev pub new_dialog : Dialog
-new_dialog = record { input = None; awaited = Nothing; place = Zero }
+new_dialog = record { input = None; awaited = None; place = Zero }
 
 -- the same dialog at another place
 abbrev pub with_place : Place → Dialog → Dialog
 with_place q d = record { input = d.input; awaited = d.awaited; place = q }
 
 -- next after a prefix A7h and A8h act on that port's flag, else on bit 5
-abbrev pub aux_gate : Awaited → Gate
-aux_gate Nothing = gate.Aux
-aux_gate CommandByte = gate.Aux
-aux_gate KeyboardLoopback = gate.Aux
-aux_gate AuxLoopback = gate.Aux
-aux_gate AuxSend = gate.Aux
-aux_gate (Route p) = gate.OnePort p
+abbrev pub aux_gate : Option Awaited → Gate
+aux_gate None = gate.Aux
+aux_gate (Some CommandByte) = gate.Aux
+aux_gate (Some KeyboardLoopback) = gate.Aux
+aux_gate (Some AuxLoopback) = gate.Aux
+aux_gate (Some AuxSend) = gate.Aux
+aux_gate (Some (Route p)) = gate.OnePort p
 
 abbrev pub is_prefix : ℕ → Bool
 is_prefix b = nat_le 0x90 b && nat_le b 0x93
 
-abbrev pub decoded : Awaited → ℕ → Option Command
+abbrev pub decoded : Option Awaited → ℕ → Option Command
 decoded a b =
     cond (is_prefix b) (Some (Await (Route (port_at (b - 0x90)))))
     (cond (b == 0x20) (Some ReadCommandByte)
@@ -58,14 +58,14 @@ decoded a b =
     (cond (b == 0xd4) (Some (Await AuxSend)) None))))))))))))
 
 -- what the next data byte is for after a command
-abbrev pub command_awaits : Command → Awaited
-command_awaits ReadCommandByte = Nothing
-command_awaits (Await a) = a
-command_awaits (Disable g) = Nothing
-command_awaits (Enable g) = Nothing
-command_awaits AuxTest = Nothing
-command_awaits SelfTest = Nothing
-command_awaits KeyboardTest = Nothing
+abbrev pub command_awaits : Command → Option Awaited
+command_awaits ReadCommandByte = None
+command_awaits (Await a) = Some a
+command_awaits (Disable g) = None
+command_awaits (Enable g) = None
+command_awaits AuxTest = None
+command_awaits SelfTest = None
+command_awaits KeyboardTest = None
 
 -- answers need the place of the controller itself
 abbrev pub command_needs : Command → Option Line
@@ -77,19 +77,19 @@ command_needs AuxTest = Some Controller
 command_needs SelfTest = Some Controller
 command_needs KeyboardTest = Some Controller
 
-abbrev pub awaits : HostByte → Awaited
+abbrev pub awaits : HostByte → Option Awaited
 awaits (host.Command c) = command_awaits c
-awaits (host.Data b) = Nothing
+awaits (host.Data b) = None
 
 -- a data byte needs the place of the line that it goes to
-abbrev pub data_needs : Awaited → Option Line
-data_needs Nothing = Some Keyboard
-data_needs CommandByte = None
-data_needs KeyboardLoopback = Some Keyboard
-data_needs AuxLoopback = Some (Aux P0)
-data_needs AuxSend = Some (Aux P0)
-data_needs (Route p) = Some (Aux p)
+abbrev pub data_needs : Option Awaited → Option Line
+data_needs None = Some Keyboard
+data_needs (Some CommandByte) = None
+data_needs (Some KeyboardLoopback) = Some Keyboard
+data_needs (Some AuxLoopback) = Some (Aux P0)
+data_needs (Some AuxSend) = Some (Aux P0)
+data_needs (Some (Route p)) = Some (Aux p)
 
-abbrev pub needs : HostByte → Awaited → Option Line
+abbrev pub needs : HostByte → Option Awaited → Option Line
 needs (host.Command c) a = command_needs c
 needs (host.Data b) a = data_needs a

@@ -1,11 +1,11 @@
 -- Sequence: the arguments that switch between the modes.
 --   leads q b     the place after an argument: F0h leads to 1, 56h from 1 to 2, the rest to 0
---   outcome q b   at place 2 A4h enters Multiplexed mode and A5h leaves it
-use Rattle.std.specs.Prelude.{ℕ, Bool, true, false, cond, ◌&&◌, ◌==◌}
+--   outcome q b   the mode that an argument switches to: at place 2 Multiplexed by A4h, Legacy by A5h
+use Rattle.std.specs.Prelude.{ℕ, Bool, true, false, cond, ◌&&◌, Some, None, Option, ◌==◌}
 use Rattle.parts.specs.declared.dialog.Place.{Place}
 use Rattle.parts.specs.declared.dialog.Place.TheVariants.{Zero, One, Two}
-use Rattle.parts.specs.declared.dialog.Outcome.{Outcome}
-use Rattle.parts.specs.declared.dialog.Outcome.TheVariants.{Echo, Enter, Leave}
+use Rattle.parts.specs.declared.settings.Mode.{Mode}
+use Rattle.parts.specs.declared.settings.Mode.TheVariants.{Legacy, Multiplexed}
 
 -- at place 1
 abbrev pub is_one : Place → Bool
@@ -22,5 +22,5 @@ is_two Two = true
 abbrev pub leads : Place → ℕ → Place
 leads q b = cond (b == 0xf0) One (cond (is_one q && b == 0x56) Two Zero)
 
-abbrev pub outcome : Place → ℕ → Outcome
-outcome q b = cond (is_two q && b == 0xa4) Enter (cond (is_two q && b == 0xa5) Leave Echo)
+abbrev pub outcome : Place → ℕ → Option Mode
+outcome q b = cond (is_two q && b == 0xa4) (Some Multiplexed) (cond (is_two q && b == 0xa5) (Some Legacy) None)

@@ -4,13 +4,11 @@ ghost use Rattle.parts.specs.Sequence.{leads, outcome};
 ghost use Rattle.parts.specs.Commands.{new_dialog, with_place, decoded, awaits, needs};
 
 use crate::lines::{Line, Port};
-use crate::settings::Gate;
+use crate::settings::{Gate, Mode};
 
-// What the next data byte is for.
+// What the next data byte is for. Where nothing awaits it, it is sent to the keyboard.
 #[derive(Clone, Copy)]
 pub enum Awaited {
-    // nothing awaits it: it is sent to the keyboard
-    Nothing,
     CommandByte,
     // held as if the keyboard or port 0 had given it
     KeyboardLoopback,
@@ -46,33 +44,25 @@ pub enum Place {
     Two,
 }
 
-// What an argument of the sequence does beside being held.
-#[derive(Clone, Copy)]
-pub enum Outcome {
-    Echo,
-    Enter,
-    Leave,
-}
-
 #[derive(Clone, Copy)]
 pub struct Dialog {
     pub input: Option<HostByte>,
-    pub awaited: Awaited,
+    pub awaited: Option<Awaited>,
     pub place: Place,
 }
 
 impl Command {
     // The command of a byte, by what was awaited before it; none where the table has no such byte.
-    pub fn decode(byte: u8, awaited: Awaited) -> Option<Command>
+    pub fn decode(byte: u8, awaited: Option<Awaited>) -> Option<Command>
         ensures { result ≡ decoded awaited byte }
     {
         let command = match byte {
             0x20 => Command::ReadCommandByte,
             0x60 => Command::Await(Awaited::CommandByte),
             0x90..=0x93 => Command::Await(Awaited::Route(Port::at(byte - 0x90))),
-            0xA7 if let Awaited::Route(port) = awaited => Command::Disable(Gate::OnePort(port)),
+            0xA7 if let Some(Awaited::Route(p)) = awaited => Command::Disable(Gate::OnePort(p)),
             0xA7 => Command::Disable(Gate::Aux),
-            0xA8 if let Awaited::Route(port) = awaited => Command::Enable(Gate::OnePort(port)),
+            0xA8 if let Some(Awaited::Route(p)) = awaited => Command::Enable(Gate::OnePort(p)),
             0xA8 => Command::Enable(Gate::Aux),
             0xA9 => Command::AuxTest,
             0xAA => Command::SelfTest,
@@ -90,17 +80,17 @@ impl Command {
 
 impl HostByte {
     // What the next data byte is for after this one.
-    pub fn awaits(self) -> Awaited
+    pub fn awaits(self) -> Option<Awaited>
         ensures { result ≡ awaits self }
     {
         match self {
-            HostByte::Command(Command::Await(awaited)) => awaited,
-            HostByte::Command(_) | HostByte::Data(_) => Awaited::Nothing,
+            HostByte::Command(Command::Await(awaited)) => Some(awaited),
+            HostByte::Command(_) | HostByte::Data(_) => None,
         }
     }
 
     // The line whose held place it needs to be empty.
-    pub fn needs(self, awaited: Awaited) -> Option<Line>
+    pub fn needs(self, awaited: Option<Awaited>) -> Option<Line>
         ensures { result ≡ needs self awaited }
     {
         match (self, awaited) {
@@ -109,12 +99,12 @@ impl HostByte {
             (HostByte::Command(Command::SelfTest), _) => Some(Line::Controller),
             (HostByte::Command(Command::KeyboardTest), _) => Some(Line::Controller),
             (HostByte::Command(_), _) => None,
-            (HostByte::Data(_), Awaited::CommandByte) => None,
-            (HostByte::Data(_), Awaited::Nothing) => Some(Line::Keyboard),
-            (HostByte::Data(_), Awaited::KeyboardLoopback) => Some(Line::Keyboard),
-            (HostByte::Data(_), Awaited::AuxLoopback) => Some(Line::Aux(Port::P0)),
-            (HostByte::Data(_), Awaited::AuxSend) => Some(Line::Aux(Port::P0)),
-            (HostByte::Data(_), Awaited::Route(port)) => Some(Line::Aux(port)),
+            (HostByte::Data(_), Some(Awaited::CommandByte)) => None,
+            (HostByte::Data(_), None) => Some(Line::Keyboard),
+            (HostByte::Data(_), Some(Awaited::KeyboardLoopback)) => Some(Line::Keyboard),
+            (HostByte::Data(_), Some(Awaited::AuxLoopback)) => Some(Line::Aux(Port::P0)),
+            (HostByte::Data(_), Some(Awaited::AuxSend)) => Some(Line::Aux(Port::P0)),
+            (HostByte::Data(_), Some(Awaited::Route(port))) => Some(Line::Aux(port)),
         }
     }
 }
@@ -125,37 +115,24 @@ impl Dialog {
     {
         Dialog {
             input: None,
-            awaited: Awaited::Nothing,
+            awaited: None,
             place: Place::Zero,
         }
     }
 
-    // Goes on in the activation sequence by an argument.
-    pub fn argue(&mut self, argument: u8) -> Outcome
+    // Goes on in the activation sequence by an argument; answers the mode to switch to, if any.
+    pub fn argue(&mut self, argument: u8) -> Option<Mode>
         ensures value { result ≡ outcome self.old.place argument }
         ensures after { self.new ≡ with_place (leads self.old.place argument) self.old }
     {
-        match (self.place, argument) {
-            (_, 0xF0) => {
-                self.place = Place::One;
-                Outcome::Echo
-            }
-            (Place::One, 0x56) => {
-                self.place = Place::Two;
-                Outcome::Echo
-            }
-            (Place::Two, 0xA4) => {
-                self.place = Place::Zero;
-                Outcome::Enter
-            }
-            (Place::Two, 0xA5) => {
-                self.place = Place::Zero;
-                Outcome::Leave
-            }
-            _ => {
-                self.place = Place::Zero;
-                Outcome::Echo
-            }
-        }
+        let (place, mode) = match (self.place, argument) {
+            (_, 0xF0) => (Place::One, None),
+            (Place::One, 0x56) => (Place::Two, None),
+            (Place::Two, 0xA4) => (Place::Zero, Some(Mode::Multiplexed)),
+            (Place::Two, 0xA5) => (Place::Zero, Some(Mode::Legacy)),
+            _ => (Place::Zero, None),
+        };
+        self.place = place;
+        mode
     }
 }

@@ -4,10 +4,10 @@ ghost use Rattle.parts.specs.Lines.{port_number, port_at, line_number, line_afte
 
 #[derive(Clone, Copy, PartialEq, Eq, Debug)]
 pub enum Port {
-    P0,
-    P1,
-    P2,
-    P3,
+    P0 = 0,
+    P1 = 1,
+    P2 = 2,
+    P3 = 3,
 }
 
 #[derive(Clone, Copy, PartialEq, Eq, Debug)]
@@ -22,12 +22,7 @@ impl Port {
         ensures value { result ≡ port_number self }
         ensures bound { result < 4 }
     {
-        match self {
-            Port::P0 => 0,
-            Port::P1 => 1,
-            Port::P2 => 2,
-            Port::P3 => 3,
-        }
+        self as u8
     }
 
     // The port of the two bits that number it.
@@ -73,10 +68,7 @@ impl Line {
     pub fn in_legacy(self) -> bool
         ensures { result ≡ in_legacy self }
     {
-        match self {
-            Line::Aux(Port::P1) | Line::Aux(Port::P2) | Line::Aux(Port::P3) => false,
-            Line::Aux(Port::P0) | Line::Keyboard | Line::Controller => true,
-        }
+        !matches!(self, Line::Aux(Port::P1 | Port::P2 | Port::P3))
     }
 
     // The line of a number, if it has a device.

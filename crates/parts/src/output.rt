@@ -16,11 +16,11 @@ pub struct Shown {
 // What became of the host byte.
 #[derive(Clone, Copy, PartialEq, Eq, Debug)]
 pub enum Carried {
-    NoByte,
-    Stays,
-    CarriedOut,
-    NowMultiplexed,
-    NowLegacy,
+    NoByte = 0,
+    Stays = 1,
+    CarriedOut = 2,
+    NowMultiplexed = 3,
+    NowLegacy = 4,
 }
 
 // Parity in bit 7, timeout in bit 6.
@@ -39,10 +39,7 @@ impl Shown {
     pub fn is_aux(self) -> bool
         ensures { result ≡ is_aux self.line }
     {
-        match self.line {
-            Line::Aux(_) => true,
-            Line::Keyboard | Line::Controller => false,
-        }
+        matches!(self.line, Line::Aux(_))
     }
 
     // Bits 7 to 2 of the status beside it.
@@ -68,12 +65,6 @@ impl Carried {
     pub fn number(self) -> u8
         ensures { result ≡ carried_number self }
     {
-        match self {
-            Carried::NoByte => 0,
-            Carried::Stays => 1,
-            Carried::CarriedOut => 2,
-            Carried::NowMultiplexed => 3,
-            Carried::NowLegacy => 4,
-        }
+        self as u8
     }
 }

@@ -4,8 +4,8 @@ use Rattle.ps2.specs.declared.refusal.Refusal.{Refusal}
 use Rattle.session.specs.declared.reader.Reader.{Reader}
 use Rattle.session.specs.Records.{Item}
 use Rattle.session.specs.Files.{Ending, complete, refused, session, session_by, session_of, answered_by, tail}
-use Rattle.session.specs.Readers.{file_of, left_of, AtStart, Opened, Step, Keeps}
-use Rattle.session.proofs.Progress.{Progress, begins, onward}
+use Rattle.session.specs.Readers.{left_of, Opened, Step, Keeps}
+use Rattle.session.proofs.Progress.{Progress, onward}
 use Rattle.rules.specs.Banks.{Kinds, Values}
 use Rattle.rules.specs.States.{State, power_on}
 use Rattle.rules.specs.Histories.{History, new}
@@ -43,9 +43,6 @@ module _ {K : Kinds} where
     pub progress : Progress is r number
     pub written : text ++ lines_of number s (session (left_of r)) ≡ goal
 
-  pub at_start : (text : List ℕ) (r : Reader) (s : State K) → AtStart (file_of r) r → Sofar (text ++ lines_of 0 s (session (left_of r))) r 0 s text
-  at_start text r s h = record { is = []; progress = begins r h; written = refl }
-
   module _ {goal : List ℕ} {r : Reader} {number : ℕ} {s : State K} {text : List ℕ} (so : Sofar goal r number s text) where
     pub at_end : (after : Reader) → Step r (Ok None) after → text ≡ goal
     at_end after step = sym (append-nil text) ∙ ap (λ l. text ++ l) (sym (lines_none number s _ _ step.value)) ∙ so.written
@@ -70,11 +67,7 @@ module _ {K : Kinds} where
   reached_to v h s [] r = r
   reached_to v h s (i ∷ is) r = reached_to v (gone (call_by i s) h) (played_to i s) is ((plays s i (played_to i s) refl).reached v h r)
 
--- what opening a file says of its lines
-pub opened_lines : {K : Kinds} (s : State K) (o : Option Refusal) (file : List ℕ) (r : Reader) → Opened o file (Ok r) → lines_of 0 s (session (left_of r)) ≡ lines_of 0 s (session_by o file)
-opened_lines s None file r h = ap (λ bs. lines_of 0 s (session bs)) h.start
-opened_lines s (Some e) file r h = absurd h
-
+-- what a refusal to open a file says of its lines
 pub refused_lines : {K : Kinds} (s : State K) (o : Option Refusal) (file : List ℕ) (e : Refusal) → Opened o file (Err e) → end_line 0 (refused e) ≡ lines_of 0 s (session_by o file)
 unfolding lines_from
 refused_lines s None file e h = absurd h

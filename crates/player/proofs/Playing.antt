@@ -1,5 +1,5 @@
 -- Playing a record keeps the law of runs.
-use Rattle.std.proofs.Common.{◌≡◌, ℕ, Some, None, Ok, Err, Option, Result, sym, refl, subst}
+use Rattle.std.proofs.Common.{◌≡◌, ℕ, Ok, Err, Result, sym, refl, subst}
 use Rattle.ps2.specs.declared.refusal.Refusal.{Refusal}
 use Rattle.ps2.specs.Events.{Happening}
 use Rattle.session.specs.Records.{Item, command_write, data_write, status_read, data_read, turn, movement, stroke, cable}
@@ -8,7 +8,7 @@ use Rattle.rules.specs.States.{State}
 use Rattle.rules.specs.Histories.{Call, History, Answers}
 use Rattle.rules.specs.Law.{Spans, Reached, Lawful}
 use Rattle.rules.proofs.Laws.{kept, stands}
-use Rattle.player.specs.Plays.{action_of, event_call, call_by, next_by, gone, played_to, Plays}
+use Rattle.player.specs.Plays.{action_by, event_call, call_by, next_by, gone, played_to, Plays}
 
 module _ {K : Kinds} (s : State K) where
   -- the call's answer is the one that the rules give
@@ -16,9 +16,9 @@ module _ {K : Kinds} (s : State K) where
   Fits (Ok x) = Answers s x
   Fits (Err e) = Unit {0}
 
-  event_fits : (o : Option Happening) (l : ℕ) → Fits (event_call o l s)
-  event_fits None l = tt
-  event_fits (Some e) l = refl
+  event_fits : (o : Result Happening Refusal) (l : ℕ) → Fits (event_call o l s)
+  event_fits (Ok e) l = refl
+  event_fits (Err e) l = tt
 
   call_fits : (i : Item) → Fits (call_by i s)
   call_fits (command_write b) = refl
@@ -28,7 +28,7 @@ module _ {K : Kinds} (s : State K) where
   call_fits turn = refl
   call_fits (movement l b x y w) = refl
   call_fits (stroke l bs) = refl
-  call_fits (cable l a) = event_fits (action_of a) l
+  call_fits (cable l a) = event_fits (action_by l a) l
 
   -- by the call that the record makes
   plays_by : (i : Item) (r : Result Call Refusal) → call_by i s ≡ r → Fits r → (t : State K) → t ≡ next_by r s → Plays s i t

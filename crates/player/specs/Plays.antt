@@ -4,7 +4,7 @@
 --   played_to i s   the state after it
 --   gone r h        the history after it
 --   Plays s i t     it leads from s to t: so every history goes on, and the law holds behind it
-use Rattle.std.specs.Prelude.{◌≡◌, ℕ, cond, Some, None, Ok, Err, Option, Result, ◌==◌, nat_lt}
+use Rattle.std.specs.Prelude.{◌≡◌, ℕ, cond, Ok, Err, Result, ◌==◌, nat_lt}
 use Rattle.ps2.specs.declared.refusal.Refusal.{Refusal}
 use Rattle.ps2.specs.declared.refusal.Refusal.TheVariants.{NoSuchLine, FieldOutOfRange}
 use Rattle.ps2.specs.declared.event.Event.{Event}
@@ -23,19 +23,18 @@ use Rattle.rules.specs.Law.{Spans, Reached, Lawful}
 use Rattle.player.specs.declared.reply.Reply.{Reply}
 use Rattle.player.specs.declared.reply.Reply.TheVariants.{Done, Byte, Turned, Refused}
 
--- a cable record's second byte: 0 a pull, 1 a plug
-abbrev pub action_of : ℕ → Option Happening
-action_of a = cond (a == 0) (Some pull) (cond (a == 1) (Some plug) None)
+-- a cable record's second byte: 0 a pull, 1 a plug; of a bad one the line comes first, then the field
+abbrev pub action_by : ℕ → ℕ → Result Happening Refusal
+action_by l a = cond (a == 0) (Ok pull) (cond (a == 1) (Ok plug) (Err (cond (nat_lt 4 l) NoSuchLine FieldOutOfRange)))
 
--- an event of the code, if any, as a value
-abbrev pub told_action : Option Event → Option Happening
-told_action None = None
-told_action (Some e) = Some (told e)
+-- an event of the code, or a refusal, as a value
+abbrev pub told_action : Result Event Refusal → Result Happening Refusal
+told_action (Ok e) = Ok (told e)
+told_action (Err e) = Err e
 
--- of a bad one the line comes first, then the field
-abbrev pub event_call : {K : Kinds} → Option Happening → ℕ → State K → Result Call Refusal
-event_call None l s = Err (cond (nat_lt 4 l) NoSuchLine FieldOutOfRange)
-event_call (Some e) l s = Ok (Histories.happens l e (event_answer l e s))
+abbrev pub event_call : {K : Kinds} → Result Happening Refusal → ℕ → State K → Result Call Refusal
+event_call (Ok e) l s = Ok (Histories.happens l e (event_answer l e s))
+event_call (Err e) l s = Err e
 
 abbrev pub call_by : {K : Kinds} → Item → State K → Result Call Refusal
 call_by (command_write b) s = Ok (Histories.command_write b (command_answer b s))
@@ -43,9 +42,9 @@ call_by (data_write b) s = Ok (Histories.data_write b (data_answer s))
 call_by status_read s = Ok (Histories.status_read (status s))
 call_by data_read s = Ok (Histories.data_read (read_answer s))
 call_by turn s = Ok (Histories.turn (turn_answer s).0 (turn_answer s).1)
-call_by (movement l b x y w) s = event_call (Some (Events.movement x y w b)) l s
-call_by (stroke l bs) s = event_call (Some (Events.stroke bs)) l s
-call_by (cable l a) s = event_call (action_of a) l s
+call_by (movement l b x y w) s = event_call (Ok (Events.movement x y w b)) l s
+call_by (stroke l bs) s = event_call (Ok (Events.stroke bs)) l s
+call_by (cable l a) s = event_call (action_by l a) l s
 
 -- of a call that answers no value
 abbrev pub done_reply : Result (Unit {0}) Refusal → Reply
@@ -65,6 +64,11 @@ reply_of (Histories.command_write b r) = done_reply r
 reply_of (Histories.data_write b r) = done_reply r
 reply_of (Histories.happens n e r) = done_reply r
 reply_of (Histories.turn c m) = Turned c m
+
+-- what is shown of a reply, or of a refusal
+abbrev pub shown : Result Reply Refusal → Reply
+shown (Ok r) = r
+shown (Err e) = Refused e
 
 -- what is shown, also where there was no call
 abbrev pub reply_by : Result Call Refusal → Reply

@@ -1,8 +1,7 @@
 // A record of a session, played on a controller.
 ghost use Rattle.std.specs.Prelude.{◌≡◌};
-ghost use Rattle.ps2.specs.Events.{told, movement};
-ghost use Rattle.session.specs.Records.{item_of, cable};
-ghost use Rattle.player.specs.Plays.{done_reply, byte_reply, action_of, told_action, reply_to, played_to, Plays};
+ghost use Rattle.session.specs.Records.{item_of};
+ghost use Rattle.player.specs.Plays.{action_by, told_action, shown, reply_to, played_to, Plays};
 
 use crate::reply::Reply;
 use kbc::calls::KeyboardController;
@@ -10,88 +9,47 @@ use ps2::event::Event;
 use ps2::refusal::Refusal;
 use session::record_kinds::Record;
 
-fn done(answer: Result<(), Refusal>) -> Reply
-    ensures { result ≡ done_reply answer }
-{
-    match answer {
-        Ok(()) => Reply::Done,
-        Err(refusal) => Reply::Refused(refusal),
-    }
-}
-
-fn byte(answer: Result<u8, Refusal>) -> Reply
-    ensures { result ≡ byte_reply answer }
-{
-    match answer {
-        Ok(byte) => Reply::Byte(byte),
-        Err(refusal) => Reply::Refused(refusal),
-    }
-}
-
-// The event of a cable record's second byte.
-fn action(number: u8) -> Option<Event<'static>>
-    ensures { told_action result ≡ action_of number }
+// The event of a cable record. Of a bad one the line comes first, then the field.
+fn action(line: u8, number: u8) -> Result<Event<'static>, Refusal>
+    ensures { told_action result ≡ action_by line number }
 {
     match number {
-        0 => Some(Event::Pull),
-        1 => Some(Event::Plug),
-        _ => None,
+        0 => Ok(Event::Pull),
+        1 => Ok(Event::Plug),
+        _ if line > 4 => Err(Refusal::NoSuchLine),
+        _ => Err(Refusal::FieldOutOfRange),
     }
 }
 
-fn shift<'a>(dx: i16, dy: i16, wheel: i8, buttons: u8) -> Event<'a>
-    ensures { told result ≡ movement dx dy wheel buttons }
-{
-    Event::Movement {
-        dx,
-        dy,
-        wheel,
-        buttons,
-    }
-}
-
-// A bad action is refused behind a bad line.
-fn play_cable<C: KeyboardController>(controller: &mut C, line: u8, number: u8) -> Reply
-    ensures value { result ≡ reply_to (cable line number) (C.KeyboardController.state controller.old) }
-    ensures after { C.KeyboardController.state controller.new ≡ played_to (cable line number) (C.KeyboardController.state controller.old) }
-{
-    match action(number) {
-        Some(event) => done(controller.event(line, event)),
-        None if line > 4 => Reply::Refused(Refusal::NoSuchLine),
-        None => Reply::Refused(Refusal::FieldOutOfRange),
-    }
-}
-
-fn perform<C: KeyboardController>(controller: &mut C, item: Record<'_>) -> Reply
-    ensures value { result ≡ reply_to (item_of item.entry) (C.KeyboardController.state controller.old) }
+fn perform<C: KeyboardController>(controller: &mut C, item: Record<'_>) -> Result<Reply, Refusal>
+    ensures value { shown result ≡ reply_to (item_of item.entry) (C.KeyboardController.state controller.old) }
     ensures after { C.KeyboardController.state controller.new ≡ played_to (item_of item.entry) (C.KeyboardController.state controller.old) }
 {
-    match item {
-        Record::CommandWrite(byte) => done(controller.write_command(byte)),
-        Record::DataWrite(byte) => done(controller.write_data(byte)),
-        Record::StatusRead => Reply::Byte(controller.read_status()),
-        Record::DataRead => byte(controller.read_data()),
+    let (line, event) = match item {
+        Record::CommandWrite(byte) => return controller.write_command(byte).map(|_| Reply::Done),
+        Record::DataWrite(byte) => return controller.write_data(byte).map(|_| Reply::Done),
+        Record::StatusRead => return Ok(Reply::Byte(controller.read_status())),
+        Record::DataRead => return controller.read_data().map(Reply::Byte),
         Record::Turn => {
             let (carried, line) = controller.turn();
-            Reply::Turned(carried, line)
+            return Ok(Reply::Turned(carried, line));
         }
-        Record::Movement {
+        Record::Movement { line, movement } => (line, Event::Movement(movement)),
+        Record::Stroke { line, bytes } => (line, Event::Stroke(bytes)),
+        Record::Cable {
             line,
-            buttons,
-            dx,
-            dy,
-            wheel,
-        } => done(controller.event(line, shift(dx, dy, wheel, buttons))),
-        Record::Stroke { line, bytes } => done(controller.event(line, Event::Stroke(bytes))),
-        Record::Cable { line, action } => play_cable(controller, line, action),
-    }
+            action: number,
+        } => (line, action(line, number)?),
+    };
+    controller.event(line, event).map(|_| Reply::Done)
 }
 
 // Plays one record, and answers what its line shows.
+#[tactic(auto, using(crate::proofs::Playing::plays))]
 pub fn play<C: KeyboardController>(controller: &mut C, item: Record<'_>) -> Reply
     ensures value { result ≡ reply_to (item_of item.entry) (C.KeyboardController.state controller.old) }
     ensures after { C.KeyboardController.state controller.new ≡ played_to (item_of item.entry) (C.KeyboardController.state controller.old) }
     ensures runs { Plays (C.KeyboardController.state controller.old) (item_of item.entry) (C.KeyboardController.state controller.new) }
 {
-    perform(controller, item)
+    perform(controller, item).unwrap_or_else(Reply::Refused)
 }

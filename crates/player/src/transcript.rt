@@ -78,14 +78,13 @@ fn tower() -> Controller<Cable<Mouse>, Cable<Mouse>, Cable<Board>, Cable<Board>,
 }
 
 // The transcript of a session file, one line for each record.
+#[tactic(auto, using(crate::proofs::Lines::runs))]
 pub fn transcript(heap: Global, file: &[u8]) -> Result<String, AllocError>
     ensures value { IfOk result (λ t. string_bytes t ≡ transcript file.now) }
     ensures runs { Runs file.now }
 {
     let mut text = String::new(heap);
     let mut controller = tower();
-    match write_file(&mut text, &mut controller, file) {
-        Ok(()) => Ok(text),
-        Err(memory) => Err(memory),
-    }
+    write_file(&mut text, &mut controller, file)?;
+    Ok(text)
 }

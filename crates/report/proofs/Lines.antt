@@ -5,8 +5,8 @@ use Rattle.ps2.specs.declared.refusal.Refusal.{Refusal}
 use Rattle.session.specs.declared.reader.Reader.{Reader}
 use Rattle.session.specs.Records.{Item, bytes_of}
 use Rattle.session.specs.Files.{Ending, complete, refused, session, session_by, answered_by, tail}
-use Rattle.session.specs.Readers.{file_of, left_of, AtStart, Opened, Step, Keeps}
-use Rattle.session.proofs.Progress.{Progress, begins, place_is, size, onward}
+use Rattle.session.specs.Readers.{file_of, left_of, Opened, Step, Keeps}
+use Rattle.session.proofs.Progress.{Progress, place_is, size, onward}
 use Rattle.report.specs.Explained.{line, end_line, lines, lines_of}
 
 -- what is written so far, and the lines of what is left, are the whole text
@@ -15,14 +15,7 @@ pub record Sofar (goal : List ℕ) (r : Reader) (number : ℕ) (text : List ℕ)
   pub progress : Progress is r number
   pub written : text ++ lines_of number (length (flat_map bytes_of is)) (session (left_of r)) ≡ goal
 
-pub at_start : (text : List ℕ) (r : Reader) → AtStart (file_of r) r → Sofar (text ++ lines_of 0 0 (session (left_of r))) r 0 text
-at_start text r h = record { is = []; progress = begins r h; written = refl }
-
--- what opening a file says of its lines
-pub opened_lines : (o : Option Refusal) (file : List ℕ) (r : Reader) → Opened o file (Ok r) → lines_of 0 0 (session (left_of r)) ≡ lines_of 0 0 (session_by o file)
-opened_lines None file r h = ap (λ bs. lines_of 0 0 (session bs)) h.start
-opened_lines (Some e) file r h = absurd h
-
+-- what a refusal to open a file says of its lines
 pub refused_lines : (o : Option Refusal) (file : List ℕ) (e : Refusal) → Opened o file (Err e) → end_line 0 0 (refused e) ≡ lines_of 0 0 (session_by o file)
 unfolding lines
 refused_lines None file e h = absurd h

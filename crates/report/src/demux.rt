@@ -13,11 +13,10 @@ const PORTS: u8 = 4;
 fn readings_of(heap: Global, pairs: &[[u8; 2]]) -> Result<Vec<u16>, AllocError>
     ensures { IfOk result (λ v. v.items ≡ map reading_of pairs.now) }
 {
-    let mut readings = Vec::new(heap);
-    for pair in pairs {
-        readings.push(u16::from_be_bytes(*pair))?;
-    }
-    Ok(readings)
+    pairs
+        .iter()
+        .map(|pair| u16::from_be_bytes(*pair))
+        .collect(heap)
 }
 
 fn lane_of(heap: Global, readings: &[u16], port: u8) -> Result<Vec<u8>, Failure>
@@ -51,6 +50,7 @@ fn write_untagged(text: &mut String, none: Untagged) -> Result<(), AllocError>
 }
 
 // The four lanes in hexadecimal with their sizes, and the readings that belong to none.
+#[tactic(auto, using(crate::proofs::Demuxing::lines_none, crate::proofs::Demuxing::lines_more))]
 pub fn demux(heap: Global, pairs: &[[u8; 2]]) -> Result<String, Failure>
     ensures { MatchResult result (λ t. Done (map reading_of pairs.now) (string_bytes t)) (λ f. Undone (map reading_of pairs.now) f) }
 {

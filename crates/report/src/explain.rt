@@ -5,6 +5,7 @@ ghost use Rattle.session.specs.Files.{complete, refused, session};
 ghost use Rattle.session.specs.Readers.{file_of, left_of, AtStart};
 ghost use Rattle.report.specs.Explained.{action_words, motion_words, words, line, end_line, lines_of, explained};
 
+use ps2::event::Movement;
 use ps2::refusal::Refusal;
 use session::reader::Reader;
 use session::record_kinds::Record;
@@ -30,19 +31,13 @@ impl fmt::Display for Action {
 
 // How far a movement goes.
 #[derive(Clone, Copy)]
-struct Motion {
-    dx: i16,
-    dy: i16,
-    wheel: i8,
-}
+struct Motion(Movement);
 
 impl fmt::Display for Motion {
-    ghost output = { λ m. Some (motion_words m.dx m.dy m.wheel) };
+    ghost output = { λ m. Some (motion_words m.0.dx m.0.dy m.0.wheel) };
 
     fn fmt<W: fmt::Write>(&self, f: &mut fmt::Formatter<W>) -> fmt::Result {
-        let dx = self.dx;
-        let dy = self.dy;
-        let wheel = self.wheel;
+        let Movement { dx, dy, wheel, .. } = self.0;
         write!(f, "dx {dx}, dy {dy}, wheel {wheel}")
     }
 }
@@ -67,14 +62,9 @@ impl<'a> fmt::Display for Words<'a> {
             Record::StatusRead => write!(f, "status read"),
             Record::DataRead => write!(f, "data read"),
             Record::Turn => write!(f, "turn"),
-            Record::Movement {
-                line,
-                buttons,
-                dx,
-                dy,
-                wheel,
-            } => {
-                let motion = Motion { dx, dy, wheel };
+            Record::Movement { line, movement } => {
+                let buttons = movement.buttons;
+                let motion = Motion(movement);
                 write!(f, "movement, line {line}: buttons {buttons}, {motion}")
             }
             Record::Stroke { line, bytes } => {
@@ -148,8 +138,6 @@ pub fn explain(heap: Global, file: &[u8]) -> Result<String, AllocError>
     ensures { IfOk result (λ t. string_bytes t ≡ explained file.now) }
 {
     let mut text = String::new(heap);
-    match write_file(&mut text, file) {
-        Ok(()) => Ok(text),
-        Err(memory) => Err(memory),
-    }
+    write_file(&mut text, file)?;
+    Ok(text)
 }

@@ -7,17 +7,16 @@ use Rattle.parts.specs.declared.lines.Line.{Line}
 use Rattle.parts.specs.declared.lines.Line.TheVariants.{Aux, Keyboard, Controller}
 use Rattle.parts.specs.declared.lines.Port.{Port}
 use Rattle.parts.specs.declared.lines.Port.TheVariants.{P0, P1, P2, P3}
+use Rattle.parts.specs.declared.settings.Mode.{Mode}
 use Rattle.parts.specs.declared.settings.Mode.TheVariants.{Legacy, Multiplexed}
 use Rattle.parts.specs.declared.dialog.Awaited.{Awaited}
-use Rattle.parts.specs.declared.dialog.Awaited.TheVariants.{Nothing, CommandByte, KeyboardLoopback, AuxLoopback, AuxSend, Route}
+use Rattle.parts.specs.declared.dialog.Awaited.TheVariants.{CommandByte, KeyboardLoopback, AuxLoopback, AuxSend, Route}
 use Rattle.parts.specs.declared.dialog.Command.{Command}
 use Rattle.parts.specs.declared.dialog.Command.TheVariants.{ReadCommandByte, Await, Disable, Enable, AuxTest, SelfTest, KeyboardTest}
 use Rattle.parts.specs.declared.settings.Gate.TheVariants as gate
 use Rattle.parts.specs.declared.dialog.HostByte.{HostByte}
 use Rattle.parts.specs.declared.dialog.HostByte.TheVariants as host
 use Rattle.parts.specs.declared.dialog.Place.{Place}
-use Rattle.parts.specs.declared.dialog.Outcome.{Outcome}
-use Rattle.parts.specs.declared.dialog.Outcome.TheVariants.{Echo, Enter, Leave}
 use Rattle.parts.specs.Lines.{port_number, port_at, line_number, is_port}
 use Rattle.rules.specs.Banks.{Kinds, change, port_kind, port_value}
 use Rattle.rules.specs.States.{State, mode_of, with_dialog}
@@ -36,21 +35,21 @@ use Rattle.rules.proofs.Sequences.{place_of, is_enter, enters_is, entered_place}
 -- What is awaited, from the byte carried out just before
 -- ------------------------------------------------------
 
-abbrev pub role_of : Awaited → Role
-role_of Nothing = elsewhere
-role_of CommandByte = elsewhere
-role_of KeyboardLoopback = elsewhere
-role_of AuxLoopback = argument
-role_of AuxSend = elsewhere
-role_of (Route p) = sent (port_number p)
+abbrev pub role_of : Option Awaited → Role
+role_of None = elsewhere
+role_of (Some CommandByte) = elsewhere
+role_of (Some KeyboardLoopback) = elsewhere
+role_of (Some AuxLoopback) = argument
+role_of (Some AuxSend) = elsewhere
+role_of (Some (Route p)) = sent (port_number p)
 
-abbrev pub is_aux_send : Awaited → Bool
-is_aux_send Nothing = false
-is_aux_send CommandByte = false
-is_aux_send KeyboardLoopback = false
-is_aux_send AuxLoopback = false
-is_aux_send AuxSend = true
-is_aux_send (Route p) = false
+abbrev pub is_aux_send : Option Awaited → Bool
+is_aux_send None = false
+is_aux_send (Some CommandByte) = false
+is_aux_send (Some KeyboardLoopback) = false
+is_aux_send (Some AuxLoopback) = false
+is_aux_send (Some AuxSend) = true
+is_aux_send (Some (Route p)) = false
 
 -- at k, and at every other number
 at_number : (P : ℕ → Type 0) (k b : ℕ) → P k → (eqb b k ≡ false → P b) → P b
@@ -63,7 +62,7 @@ role_by (Some c) r = role_of (command_awaits c)
 prefix_role : (b : ℕ) → is_prefix b ≡ true → sent (port_number (port_at (b - 0x90))) ≡ sent (b - 0x90)
 prefix_role b e = let few : b - 0x90 ≤ 3 = grind arith in ap sent (port_number_at (b - 0x90) few)
 
-table_role : (a : Awaited) (b : ℕ) → role_by (decoded a b) (command_role b) ≡ command_role b
+table_role : (a : Option Awaited) (b : ℕ) → role_by (decoded a b) (command_role b) ≡ command_role b
 unfolding command_role
 table_role a b =
     let P : ℕ → Type 0 = λ n. role_by (decoded a n) (command_role n) ≡ command_role n in
@@ -83,7 +82,7 @@ table_role a b =
     rw (e90, e20, e60, ea7, ea8, ea9, eaa, eab, ead, eae, ed2, ed3, ed4)
 
 -- a command of the table makes of a data byte what its byte tells a reader
-pub decoded_role : (a : Awaited) (b : ℕ) (c : Command) → decoded a b ≡ Some c → command_role b ≡ role_of (command_awaits c)
+pub decoded_role : (a : Option Awaited) (b : ℕ) (c : Command) → decoded a b ≡ Some c → command_role b ≡ role_of (command_awaits c)
 decoded_role a b c e = sym (table_role a b) ∙ ap (λ o. role_by o (command_role b)) e
 
 -- What a byte does at the ports
@@ -177,7 +176,6 @@ module _ {K : Kinds} where
 
   obeys : (c : Command) (t : State K) → mode_of (obey c t) ≡ Multiplexed → Works none t.dialog.place t (obey c t)
   obeys ReadCommandByte t m = answered t.settings.command t
-  obeys (Await Nothing) t m = same t t refl refl refl refl refl
   obeys (Await CommandByte) t m = same t t refl refl refl refl refl
   obeys (Await KeyboardLoopback) t m = same t t refl refl refl refl refl
   obeys (Await AuxLoopback) t m = same t t refl refl refl refl refl
@@ -194,11 +192,11 @@ module _ {K : Kinds} where
   obeys KeyboardTest t m = answered 0 t
 
   -- an argument of the sequence is a force at port 0
-  switches : (o : Outcome) (f b : ℕ) (t : State K) → f ≡ cond (is_enter o) 0x11 b → mode_of (switch o b t) ≡ Multiplexed →
+  switches : (o : Option Mode) (f b : ℕ) (t : State K) → f ≡ cond (is_enter o) 0x11 b → mode_of (switch o b t) ≡ Multiplexed →
       Works (λ p. cond (is_port p 0) (force f ∷ []) []) t.dialog.place t (switch o b t)
-  switches Echo f b t e m = record { cable = λ p hs. force_at p f b t hs e; place = refl; output = refl; next = refl }
-  switches Enter f b t e m = record { cable = λ p hs. force_at p f 0x11 t hs e; place = refl; output = refl; next = refl }
-  switches Leave f b t e m = absurd (modes_apart m)
+  switches None f b t e m = record { cable = λ p hs. force_at p f b t hs e; place = refl; output = refl; next = refl }
+  switches (Some Multiplexed) f b t e m = record { cable = λ p hs. force_at p f 0x11 t hs e; place = refl; output = refl; next = refl }
+  switches (Some Legacy) f b t e m = absurd (modes_apart m)
 
   sends : (l : Line) (x : Bool) (b : ℕ) (t : State K) (steps : Port → List Step) →
       ((p : Port) (hs : List Entry) → play_all (cable_of p t hs) (steps p) ≡ cable_of p (send_if x l b t) hs) → Works steps t.dialog.place t (send_if x l b t)
@@ -208,18 +206,18 @@ module _ {K : Kinds} where
   placed : {steps : Port → List Step} {q r : Place} {t u : State K} → q ≡ r → Works steps q t u → Works steps r t u
   placed e w = record { cable = w.cable; place = w.place ∙ e; output = w.output; next = w.next }
 
-  delivers : (a : Awaited) (args : List ℕ) (b : ℕ) (t : State K) → is_aux_send a ≡ false → t.dialog.place ≡ place_of args → mode_of (deliver a b t) ≡ Multiplexed →
+  delivers : (a : Option Awaited) (args : List ℕ) (b : ℕ) (t : State K) → is_aux_send a ≡ false → t.dialog.place ≡ place_of args → mode_of (deliver a b t) ≡ Multiplexed →
       Works (λ p. data_steps p (role_of a) args b) (place_of (argued (role_of a) (Some (datum b)) args)) t (deliver a b t)
-  delivers Nothing args b t n e m = placed e (sends Keyboard (takes_at t.devices Keyboard b) b t none (λ p hs. send_other p _ Keyboard b t hs (other_port p 4 (omega arith))))
-  delivers CommandByte args b t n e m = placed e (same t _ refl refl refl refl refl)
-  delivers KeyboardLoopback args b t n e m = placed e (record { cable = λ p hs. hold_other p Keyboard (Byte b) t hs (other_port p 4 (omega arith)); place = refl; output = refl; next = refl })
-  delivers AuxLoopback args b t n e m =
+  delivers None args b t n e m = placed e (sends Keyboard (takes_at t.devices Keyboard b) b t none (λ p hs. send_other p _ Keyboard b t hs (other_port p 4 (omega arith))))
+  delivers (Some CommandByte) args b t n e m = placed e (same t _ refl refl refl refl refl)
+  delivers (Some KeyboardLoopback) args b t n e m = placed e (record { cable = λ p hs. hold_other p Keyboard (Byte b) t hs (other_port p 4 (omega arith)); place = refl; output = refl; next = refl })
+  delivers (Some AuxLoopback) args b t n e m =
       let q = t.dialog.place in
       let f : forced args b ≡ cond (is_enter (outcome q b)) 0x11 b = ap (λ x. cond x 0x11 b) (sym (enters_is args b) ∙ ap (λ q. is_enter (outcome q b)) (sym e)) in
       let w = switches (outcome q b) (forced args b) b (with_dialog (with_place (leads q b) t.dialog) t) f m in
       record { cable = w.cable; place = w.place ∙ ap (λ q. leads q b) e; output = w.output; next = w.next }
-  delivers AuxSend args b t n e m = absurd (truths_apart n)
-  delivers (Route r) args b t n e m = placed e (sends (Aux r) (takes_at t.devices (Aux r) b) b t (λ p. cond (is_port p (port_number r)) (LoneCable.send b ∷ []) []) (λ p hs. send_at p (Aux r) b t hs (is_port p (port_number r)) refl))
+  delivers (Some AuxSend) args b t n e m = absurd (truths_apart n)
+  delivers (Some (Route r)) args b t n e m = placed e (sends (Aux r) (takes_at t.devices (Aux r) b) b t (λ p. cond (is_port p (port_number r)) (LoneCable.send b ∷ []) []) (λ p hs. send_at p (Aux r) b t hs (is_port p (port_number r)) refl))
 
   -- Working on a host byte.
   pub works : (w : HostByte) (o : Option Written) (args : List ℕ) (s : State K) → Wrote w o → is_aux_send s.dialog.awaited ≡ false → s.dialog.place ≡ place_of args →
@@ -234,7 +232,6 @@ module _ {K : Kinds} where
   -- while the controller multiplexes, nothing awaits a byte for port 0 alone
   obey_fits : (c : Command) (s : State K) → mode_of (obey c s) ≡ Multiplexed → is_aux_send (command_awaits c) ≡ false
   obey_fits ReadCommandByte s m = refl
-  obey_fits (Await Nothing) s m = refl
   obey_fits (Await CommandByte) s m = refl
   obey_fits (Await KeyboardLoopback) s m = refl
   obey_fits (Await AuxLoopback) s m = refl
@@ -251,15 +248,15 @@ module _ {K : Kinds} where
   fits (host.Data b) s m = refl
 
   -- A byte that is not blocked finds the held place of its port empty.
-  free_data : (a : Awaited) (args : List ℕ) (b : ℕ) (s : State K) → full_at s.held (data_needs a) ≡ false → (p : Port) →
+  free_data : (a : Option Awaited) (args : List ℕ) (b : ℕ) (s : State K) → full_at s.held (data_needs a) ≡ false → (p : Port) →
       (data_steps p (role_of a) args b ≡ []) ⊎ (held_at s.held (Aux p) ≡ None)
-  free_data Nothing args b s f p = inl refl
-  free_data CommandByte args b s f p = inl refl
-  free_data KeyboardLoopback args b s f p = inl refl
-  free_data AuxLoopback args b s f p =
+  free_data None args b s f p = inl refl
+  free_data (Some CommandByte) args b s f p = inl refl
+  free_data (Some KeyboardLoopback) args b s f p = inl refl
+  free_data (Some AuxLoopback) args b s f p =
       free_if (is_port p 0) (force (forced args b)) (held_at s.held (Aux p)) (λ e. subst (λ l. present (held_at s.held l) ≡ false) (port_line p (Aux P0) e) f)
-  free_data AuxSend args b s f p = inl refl
-  free_data (Route q) args b s f p =
+  free_data (Some AuxSend) args b s f p = inl refl
+  free_data (Some (Route q)) args b s f p =
       free_if (is_port p (port_number q)) (LoneCable.send b) (held_at s.held (Aux p)) (λ e. subst (λ l. present (held_at s.held l) ≡ false) (port_line p (Aux q) e) f)
 
   pub free : (w : HostByte) (o : Option Written) (args : List ℕ) (s : State K) → Wrote w o → blocked w s ≡ false → (p : Port) →
@@ -279,7 +276,6 @@ module _ {K : Kinds} where
 
   obey_stays : (c : Command) (s : State K) → mode_of s ≡ Legacy → mode_of (obey c s) ≡ Legacy
   obey_stays ReadCommandByte s e = e
-  obey_stays (Await Nothing) s e = e
   obey_stays (Await CommandByte) s e = e
   obey_stays (Await KeyboardLoopback) s e = e
   obey_stays (Await AuxLoopback) s e = e
@@ -295,26 +291,26 @@ module _ {K : Kinds} where
   obey_stays SelfTest s e = refl
   obey_stays KeyboardTest s e = e
 
-  switch_enters : (o : Outcome) (b : ℕ) (s : State K) → mode_of s ≡ Legacy → mode_of (switch o b s) ≡ Multiplexed → o ≡ Enter
-  switch_enters Echo b s e m = legacy_not s e m
-  switch_enters Enter b s e m = refl
-  switch_enters Leave b s e m = absurd (modes_apart m)
+  switch_enters : (o : Option Mode) (b : ℕ) (s : State K) → mode_of s ≡ Legacy → mode_of (switch o b s) ≡ Multiplexed → o ≡ Some Multiplexed
+  switch_enters None b s e m = legacy_not s e m
+  switch_enters (Some Multiplexed) b s e m = refl
+  switch_enters (Some Legacy) b s e m = absurd (modes_apart m)
 
-  switch_place : (o : Outcome) (b : ℕ) (s : State K) → (switch o b s).dialog.place ≡ s.dialog.place
-  switch_place Echo b s = refl
-  switch_place Enter b s = refl
-  switch_place Leave b s = refl
+  switch_place : (o : Option Mode) (b : ℕ) (s : State K) → (switch o b s).dialog.place ≡ s.dialog.place
+  switch_place None b s = refl
+  switch_place (Some Multiplexed) b s = refl
+  switch_place (Some Legacy) b s = refl
 
-  deliver_enters : (a : Awaited) (args : List ℕ) (b : ℕ) (s : State K) → mode_of s ≡ Legacy → mode_of (deliver a b s) ≡ Multiplexed →
+  deliver_enters : (a : Option Awaited) (args : List ℕ) (b : ℕ) (s : State K) → mode_of s ≡ Legacy → mode_of (deliver a b s) ≡ Multiplexed →
       (deliver a b s).dialog.place ≡ place_of (argued (role_of a) (Some (datum b)) args)
-  deliver_enters Nothing args b s e m = legacy_not s e (sym (send_mode (takes_at s.devices Keyboard b) Keyboard b s) ∙ m)
-  deliver_enters CommandByte args b s e m = legacy_not s e m
-  deliver_enters KeyboardLoopback args b s e m = legacy_not s e m
-  deliver_enters AuxLoopback args b s e m =
+  deliver_enters None args b s e m = legacy_not s e (sym (send_mode (takes_at s.devices Keyboard b) Keyboard b s) ∙ m)
+  deliver_enters (Some CommandByte) args b s e m = legacy_not s e m
+  deliver_enters (Some KeyboardLoopback) args b s e m = legacy_not s e m
+  deliver_enters (Some AuxLoopback) args b s e m =
       let q = s.dialog.place in
       switch_place (outcome q b) b (with_dialog (with_place (leads q b) s.dialog) s) ∙ entered_place q (place_of args) b (switch_enters (outcome q b) b (with_dialog (with_place (leads q b) s.dialog) s) e m)
-  deliver_enters AuxSend args b s e m = legacy_not s e (sym (send_mode (takes_at s.devices (Aux P0) b) (Aux P0) b s) ∙ m)
-  deliver_enters (Route q) args b s e m = legacy_not s e (sym (send_mode (takes_at s.devices (Aux q) b) (Aux q) b s) ∙ m)
+  deliver_enters (Some AuxSend) args b s e m = legacy_not s e (sym (send_mode (takes_at s.devices (Aux P0) b) (Aux P0) b s) ∙ m)
+  deliver_enters (Some (Route q)) args b s e m = legacy_not s e (sym (send_mode (takes_at s.devices (Aux q) b) (Aux q) b s) ∙ m)
 
   -- the place is then the one that the arguments tell
   pub entered : (w : HostByte) (o : Option Written) (args : List ℕ) (s : State K) → Wrote w o → mode_of s ≡ Legacy → mode_of (worked w s) ≡ Multiplexed →

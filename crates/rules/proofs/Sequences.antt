@@ -1,9 +1,9 @@
 -- The place in the sequence, from the arguments alone.
-use Rattle.std.proofs.Common.{◌≡◌, ℕ, Bool, true, false, ◌&&◌, eqb, List, [], ◌∷◌, sym, refl, ap, ◌∙◌, arith}
+use Rattle.std.proofs.Common.{◌≡◌, ℕ, Bool, true, false, ◌&&◌, eqb, List, [], ◌∷◌, Some, None, Option, sym, refl, ap, ◌∙◌, arith}
 use Rattle.parts.specs.declared.dialog.Place.{Place}
 use Rattle.parts.specs.declared.dialog.Place.TheVariants.{Zero, One, Two}
-use Rattle.parts.specs.declared.dialog.Outcome.{Outcome}
-use Rattle.parts.specs.declared.dialog.Outcome.TheVariants.{Echo, Enter, Leave}
+use Rattle.parts.specs.declared.settings.Mode.{Mode}
+use Rattle.parts.specs.declared.settings.Mode.TheVariants.{Legacy, Multiplexed}
 use Rattle.parts.specs.Sequence.{is_one, is_two, leads, outcome}
 use Rattle.rules.specs.Histories.{activates}
 use Rattle.rules.proofs.Basics.{truths_apart, eqb_is}
@@ -12,10 +12,10 @@ abbrev pub place_of : List ℕ → Place
 place_of [] = Zero
 place_of (b ∷ earlier) = leads (place_of earlier) b
 
-abbrev pub is_enter : Outcome → Bool
-is_enter Echo = false
-is_enter Enter = true
-is_enter Leave = false
+abbrev pub is_enter : Option Mode → Bool
+is_enter None = false
+is_enter (Some Multiplexed) = true
+is_enter (Some Legacy) = false
 
 enter_at : (q : Place) (b : ℕ) → is_enter (outcome q b) ≡ is_two q && eqb b 0xa4
 enter_at Zero b = refl
@@ -45,7 +45,7 @@ enters_is (x ∷ (y ∷ earlier)) b =
     and_assoc true u w = refl
     and_assoc false u w = refl
 
-enter_byte : (q : Place) (b : ℕ) → outcome q b ≡ Enter → b ≡ 0xa4
+enter_byte : (q : Place) (b : ℕ) → outcome q b ≡ Some Multiplexed → b ≡ 0xa4
 enter_byte q b e =
     let t : is_two q && eqb b 0xa4 ≡ true = sym (enter_at q b) ∙ ap is_enter e in
     eqb_is b 0xa4 (second (is_two q) (eqb b 0xa4) t)
@@ -55,7 +55,7 @@ enter_byte q b e =
     second false y e = absurd (truths_apart (sym e))
 
 -- behind it the place is the same, whatever it was before
-pub entered_place : (q r : Place) (b : ℕ) → outcome q b ≡ Enter → leads q b ≡ leads r b
+pub entered_place : (q r : Place) (b : ℕ) → outcome q b ≡ Some Multiplexed → leads q b ≡ leads r b
 entered_place q r b e = ap (leads q) (enter_byte q b e) ∙ at_a4 q ∙ sym (at_a4 r) ∙ ap (leads r) (sym (enter_byte q b e))
   where
     at_a4 : (q : Place) → leads q 0xa4 ≡ Zero

@@ -10,16 +10,15 @@ use Rattle.ps2.specs.declared.entry.Entry.TheVariants.{Byte}
 use Rattle.parts.specs.declared.lines.Line.{Line}
 use Rattle.parts.specs.declared.lines.Line.TheVariants.{Aux, Keyboard, Controller}
 use Rattle.parts.specs.declared.lines.Port.TheVariants.{P0}
+use Rattle.parts.specs.declared.settings.Mode.{Mode}
 use Rattle.parts.specs.declared.settings.Mode.TheVariants.{Legacy, Multiplexed}
 use Rattle.parts.specs.declared.dialog.Awaited.{Awaited}
-use Rattle.parts.specs.declared.dialog.Awaited.TheVariants.{Nothing, CommandByte, KeyboardLoopback, AuxLoopback, AuxSend, Route}
+use Rattle.parts.specs.declared.dialog.Awaited.TheVariants.{CommandByte, KeyboardLoopback, AuxLoopback, AuxSend, Route}
 use Rattle.parts.specs.declared.dialog.Command.{Command}
 use Rattle.parts.specs.declared.dialog.Command.TheVariants.{ReadCommandByte, Await, Disable, Enable, AuxTest, SelfTest, KeyboardTest}
 use Rattle.parts.specs.declared.dialog.HostByte.{HostByte}
 use Rattle.parts.specs.declared.dialog.HostByte.TheVariants as host
 use Rattle.parts.specs.declared.dialog.Place.TheVariants.{Zero}
-use Rattle.parts.specs.declared.dialog.Outcome.{Outcome}
-use Rattle.parts.specs.declared.dialog.Outcome.TheVariants.{Echo, Enter, Leave}
 use Rattle.parts.specs.declared.output.Shown.{Shown}
 use Rattle.parts.specs.Lines.{in_legacy}
 use Rattle.parts.specs.Settings.{no_flags, with_command, with_flags, disabling, enabling}
@@ -46,7 +45,6 @@ module _ {K : Kinds} where
 
   -- D4h reverts at once; the other commands that await a byte do no more
   abbrev pub await : Awaited → State K → State K
-  await Nothing s = s
   await CommandByte s = s
   await KeyboardLoopback s = s
   await AuxLoopback s = s
@@ -63,21 +61,21 @@ module _ {K : Kinds} where
   obey KeyboardTest s = answer 0x00 s
 
   -- both switches hold 11h, version 1.1, in place of the argument; entering clears the four flags
-  abbrev pub switch : Outcome → ℕ → State K → State K
-  switch Echo b s = hold (Aux P0) (Byte b) s
-  switch Enter b s = hold (Aux P0) (Byte 0x11) (with_mode Multiplexed (with_settings (with_flags no_flags s.settings) s))
-  switch Leave b s = hold (Aux P0) (Byte 0x11) (revert s)
+  abbrev pub switch : Option Mode → ℕ → State K → State K
+  switch None b s = hold (Aux P0) (Byte b) s
+  switch (Some Multiplexed) b s = hold (Aux P0) (Byte 0x11) (with_mode Multiplexed (with_settings (with_flags no_flags s.settings) s))
+  switch (Some Legacy) b s = hold (Aux P0) (Byte 0x11) (revert s)
 
   abbrev pub argue : ℕ → State K → State K
   argue b s = switch (outcome s.dialog.place b) b (with_dialog (with_place (leads s.dialog.place b) s.dialog) s)
 
-  abbrev pub deliver : Awaited → ℕ → State K → State K
-  deliver Nothing b s = send Keyboard b s
-  deliver CommandByte b s = with_settings (with_command b s.settings) s
-  deliver KeyboardLoopback b s = hold Keyboard (Byte b) s
-  deliver AuxLoopback b s = argue b s
-  deliver AuxSend b s = send (Aux P0) b s
-  deliver (Route p) b s = send (Aux p) b s
+  abbrev pub deliver : Option Awaited → ℕ → State K → State K
+  deliver None b s = send Keyboard b s
+  deliver (Some CommandByte) b s = with_settings (with_command b s.settings) s
+  deliver (Some KeyboardLoopback) b s = hold Keyboard (Byte b) s
+  deliver (Some AuxLoopback) b s = argue b s
+  deliver (Some AuxSend) b s = send (Aux P0) b s
+  deliver (Some (Route p)) b s = send (Aux p) b s
 
   -- what a host byte does, before it leaves the input buffer
   abbrev pub worked : HostByte → State K → State K
@@ -85,7 +83,7 @@ module _ {K : Kinds} where
   worked (host.Data b) s = deliver s.dialog.awaited b s
 
   -- the input buffer is empty again, and the next data byte is for what this byte awaits
-  abbrev pub emptied : Awaited → State K → State K
+  abbrev pub emptied : Option Awaited → State K → State K
   emptied a s = with_dialog (record { input = None; awaited = a; place = s.dialog.place }) s
 
   abbrev pub carry_out : HostByte → State K → State K

@@ -30,7 +30,7 @@ item_of (DataWrite b) = data_write b
 item_of StatusRead = status_read
 item_of DataRead = data_read
 item_of Turn = turn
-item_of (Movement l b x y w) = movement l b x y w
+item_of (Movement l m) = movement l m.buttons m.dx m.dy m.wheel
 item_of (Stroke l bs) = stroke l bs.now
 item_of (Cable l a) = cable l a
 

@@ -5,6 +5,7 @@ ghost use Rattle.session.specs.Files.{headed, plain_header};
 ghost use Rattle.session.specs.Readers.{Found};
 
 use crate::record_kinds::Record;
+use ps2::event::Movement;
 use ps2::refusal::Refusal;
 
 struct Header {
@@ -39,7 +40,7 @@ pub(crate) fn first<'a>(left: &'a [u8]) -> Result<(Record<'a>, &'a [u8]), Refusa
 fn is_stroke(bytes: &[u8]) -> bool
     ensures { result ≡ stroke_length (length bytes.now) }
 {
-    bytes.len() >= 1 && bytes.len() <= 16
+    (1..=16).contains(&bytes.len())
 }
 
 // What a payload of a kind says.
@@ -54,10 +55,12 @@ fn decode<'a>(kind: u16, payload: &'a [u8]) -> Result<Record<'a>, Refusal>
         (5, []) => Ok(Record::Turn),
         (6, [line, buttons, dx_low, dx_high, dy_low, dy_high, wheel]) => Ok(Record::Movement {
             line: *line,
-            buttons: *buttons,
-            dx: i16::from_le_bytes([*dx_low, *dx_high]),
-            dy: i16::from_le_bytes([*dy_low, *dy_high]),
-            wheel: wheel.cast_signed(),
+            movement: Movement {
+                dx: i16::from_le_bytes([*dx_low, *dx_high]),
+                dy: i16::from_le_bytes([*dy_low, *dy_high]),
+                wheel: wheel.cast_signed(),
+                buttons: *buttons,
+            },
         }),
         (7, [line, bytes @ ..]) if is_stroke(bytes) => Ok(Record::Stroke { line: *line, bytes }),
         (8, [line, action]) => Ok(Record::Cable {

@@ -1,5 +1,7 @@
 // The records of a session file. Fields are as the file has them: whether a line, a wheel or a
 // cable action is in range is judged where the event is asked for.
+use ps2::event::Movement;
+
 #[derive(Clone, Copy)]
 pub enum Record<'a> {
     CommandWrite(u8),
@@ -9,10 +11,7 @@ pub enum Record<'a> {
     Turn,
     Movement {
         line: u8,
-        buttons: u8,
-        dx: i16,
-        dy: i16,
-        wheel: i8,
+        movement: Movement,
     },
     Stroke {
         line: u8,

@@ -7,7 +7,7 @@ ghost use Rattle.kbc.specs.Chips.{state_of};
 
 use super::Chip;
 use bank::bank::Bank;
-use parts::dialog::{Command, HostByte};
+use parts::dialog::{Awaited, Command, HostByte};
 use parts::lines::Line;
 use parts::settings::Mode;
 use ps2::event::Event;
@@ -49,10 +49,7 @@ impl<B: Bank> Chip<B> {
         ensures value { result ≡ read_answer (state_of B.Bank.values self.old) }
         ensures after { state_of B.Bank.values self.new ≡ read_after (state_of B.Bank.values self.old) }
     {
-        let Some(shown) = self.output else {
-            return Err(Refusal::OutputEmpty);
-        };
-        self.output = None;
+        let shown = self.output.take().ok_or(Refusal::OutputEmpty)?;
         Ok(shown.entry.shown())
     }
 
@@ -60,14 +57,14 @@ impl<B: Bank> Chip<B> {
         ensures value { result ≡ command_answer byte (state_of B.Bank.values self.old) }
         ensures after { state_of B.Bank.values self.new ≡ command_after byte (state_of B.Bank.values self.old) }
     {
-        let Some(command) = Command::decode(byte, self.dialog.awaited) else {
-            return Err(Refusal::UnknownCommand);
-        };
+        let command = Command::decode(byte, self.dialog.awaited).ok_or(Refusal::UnknownCommand)?;
         if self.dialog.input.is_some() {
             return Err(Refusal::InputFull);
         }
-        match byte {
-            0x90..=0x93 if self.settings.mode == Mode::Legacy => Err(Refusal::PrefixInLegacy),
+        match command {
+            Command::Await(Awaited::Route(_)) if self.settings.mode == Mode::Legacy => {
+                Err(Refusal::PrefixInLegacy)
+            }
             _ => {
                 self.dialog.input = Some(HostByte::Command(command));
                 Ok(())
@@ -90,9 +87,7 @@ impl<B: Bank> Chip<B> {
         ensures value { result ≡ event_answer number (told event.entry) (state_of B.Bank.values self.old) }
         ensures after { state_of B.Bank.values self.new ≡ event_after number (told event.entry) (state_of B.Bank.values self.old) }
     {
-        let Some(line) = Line::with_device(number) else {
-            return Err(Refusal::NoSuchLine);
-        };
+        let line = Line::with_device(number).ok_or(Refusal::NoSuchLine)?;
         if !event.is_in_range() {
             return Err(Refusal::FieldOutOfRange);
         }

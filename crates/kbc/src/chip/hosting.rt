@@ -6,7 +6,7 @@ ghost use Rattle.kbc.specs.Chips.{state_of};
 
 use super::Chip;
 use bank::bank::Bank;
-use parts::dialog::{Awaited, Command, HostByte, Outcome, Place};
+use parts::dialog::{Awaited, Command, HostByte, Place};
 use parts::lines::{Line, Port};
 use parts::output::Carried;
 use parts::settings::Mode;
@@ -23,11 +23,7 @@ impl<B: Bank> Chip<B> {
     {
         self.settings.mode = Mode::Legacy;
         self.lines.revert();
-        if let Some(shown) = self.output {
-            if !shown.line.in_legacy() {
-                self.output = None;
-            }
-        }
+        self.output = self.output.filter(|shown| shown.line.in_legacy());
     }
 
     fn answer(&mut self, byte: u8)
@@ -63,13 +59,13 @@ impl<B: Bank> Chip<B> {
         ensures { state_of B.Bank.values self.new ≡ argue argument (state_of B.Bank.values self.old) }
     {
         match self.dialog.argue(argument) {
-            Outcome::Echo => self.hold(PORT_0, Entry::Byte(argument)),
-            Outcome::Enter => {
+            None => self.hold(PORT_0, Entry::Byte(argument)),
+            Some(Mode::Multiplexed) => {
                 self.settings.mode = Mode::Multiplexed;
                 self.settings.disabled = [false; 4];
                 self.hold(PORT_0, Entry::Byte(VERSION));
             }
-            Outcome::Leave => {
+            Some(Mode::Legacy) => {
                 self.revert();
                 self.hold(PORT_0, Entry::Byte(VERSION));
             }
@@ -81,12 +77,12 @@ impl<B: Bank> Chip<B> {
         ensures { state_of B.Bank.values self.new ≡ deliver self.old.dialog.awaited byte (state_of B.Bank.values self.old) }
     {
         match self.dialog.awaited {
-            Awaited::Nothing => self.send(Line::Keyboard, byte),
-            Awaited::CommandByte => self.settings.command = byte,
-            Awaited::KeyboardLoopback => self.hold(Line::Keyboard, Entry::Byte(byte)),
-            Awaited::AuxLoopback => self.argue(byte),
-            Awaited::AuxSend => self.send(PORT_0, byte),
-            Awaited::Route(port) => self.send(Line::Aux(port), byte),
+            None => self.send(Line::Keyboard, byte),
+            Some(Awaited::CommandByte) => self.settings.command = byte,
+            Some(Awaited::KeyboardLoopback) => self.hold(Line::Keyboard, Entry::Byte(byte)),
+            Some(Awaited::AuxLoopback) => self.argue(byte),
+            Some(Awaited::AuxSend) => self.send(PORT_0, byte),
+            Some(Awaited::Route(port)) => self.send(Line::Aux(port), byte),
         }
     }
 
@@ -103,10 +99,8 @@ impl<B: Bank> Chip<B> {
     fn is_blocked(&self, byte: HostByte) -> bool
         ensures { result ≡ blocked byte (state_of B.Bank.values self.now) }
     {
-        match byte.needs(self.dialog.awaited) {
-            Some(line) => self.lines.held(line).is_some(),
-            None => false,
-        }
+        let needed = byte.needs(self.dialog.awaited);
+        needed.is_some_and(|line| self.lines.held(line).is_some())
     }
 
     // Carries out the waiting host byte, if there is one and it need not stay.

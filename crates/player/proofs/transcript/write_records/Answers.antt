@@ -1,4 +1,4 @@
-use Rattle.std.proofs.Common.{◌+◌, ◌++◌, Some, Ok, string_bytes, ap, ◌∙◌, arith}
+use Rattle.std.proofs.Common.{◌+◌, ◌++◌, Some, Ok, string_bytes, ap, ◌∙◌}
 use Rattle.std.proofs.lemmas.Result.{IfOk-weaker}
 use Rattle.session.specs.Records.{item_of}
 use Rattle.session.specs.Readers.{Step, Keeps}
@@ -7,9 +7,6 @@ use Rattle.player.specs.Replies.{line_text}
 use Rattle.player.proofs.Lines.{at_end, at_refusal, at_record}
 use Rattle.player.proofs.transcript.write_records.Goals as goal
 use Rattle.player.proofs.transcript.write_records.Goals.{In-Some}
-
-pub write_refused-requires : goal.write_refused-requires
-write_refused-requires g c = omega (arith, c.loop-found.invariant.progress.few, c.loop-found.invariant.progress.short)
 
 pub returns-in-Err : goal.returns-in-Err
 returns-in-Err g c = IfOk-weaker c.write_refused.result _ _ (λ _ e. e ∙ at_refusal c.loop-found.invariant _ _ c.in-Err.ensures.step) c.write_refused.ensures

@@ -22,15 +22,6 @@ returns-in_err-found c =
     let p = err_from_is_err_and c.from_residual-in_err-found.result c.from_residual-in_err-found.ensures.1 in
     rw (p.1, p.2) (sym (ap plain c.in_err-found.was) ∙ says d ∙ says_first d)
 
-pub overflow_add-result : goal.overflow_add-result
-overflow_add-result c = let w = whole (goal.at.overflow_add-result c).In_ok-length in omega arith
-
-pub slice_bounds-result-count : goal.slice_bounds-result-count
-slice_bounds-result-count c = let w = whole (goal.at.slice_bounds-result-count c).In_ok-length in omega arith
-
-pub slice_bounds-result-start : goal.slice_bounds-result-start
-slice_bounds-result-start c = let w = whole (goal.at.slice_bounds-result-start c).In_ok-length in omega arith
-
 pub returns : goal.returns
 returns c =
     let d = (goal.at.returns c).After-decode in

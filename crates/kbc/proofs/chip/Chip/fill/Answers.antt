@@ -9,8 +9,8 @@ use Rattle.kbc.specs.Chips.{state_of}
 use Rattle.kbc.proofs.chip.Chip.fill.Goals as goal
 
 -- a line that has something gives it
-pub returns-in_err-entry : goal.returns-in_err-entry
-returns-in_err-entry g c =
+pub returns-in_err-entry-clause-value : goal.returns-in_err-entry-clause-value
+returns-in_err-entry-clause-value g c =
     let s = state_of g.B.Bank.values c.args.self.now in
     let l = c.in_ok-line.line in
     let found : first_of (gives s) 6 s.next ≡ Some l = sym c.find.ensures ∙ c.in_ok-line.was in
