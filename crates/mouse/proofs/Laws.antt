@@ -16,7 +16,7 @@ use Rattle.mouse.specs.Counters.{inside}
 use Rattle.mouse.specs.Reports.{scaled_size, scaled_count, flag, sign, low, head_byte, movement_packet}
 use Rattle.mouse.specs.Mice.{began}
 use Rattle.mouse.specs.Hearing.{heard}
-use Rattle.mouse.specs.Moving.{streams, silent, sampled, news, queued}
+use Rattle.mouse.specs.Moving.{streams, wraps, silent, sampled, news, queued}
 use Rattle.mouse.specs.MouseKind.{answer_waiting, mouse_waiting, mouse_happened, mouse_kind}
 use Rattle.mouse.specs.MouseLaws.{head_bit, signed_by, wheel_read, more_buttons, Shown, Laws}
 
@@ -73,7 +73,7 @@ held_back false w r t u e = refl
 pub disabled : (m : Mouse) (e : Happening) → m.settings.reporting ≡ false → mouse_waiting (mouse_happened m e) ≡ mouse_waiting m
 disabled m (movement x y w b) h =
     let n = sampled m x y w b in
-    ap (λ t. mouse_waiting (cond t (queued n) n)) (held_back (streams m.settings.mode) m.dialog.wrapped m.settings.reporting (silent m.answer) (news n) h)
+    ap (λ t. mouse_waiting (cond t (queued n) n)) (held_back (streams m.settings.mode) (wraps m.awaited) m.settings.reporting (silent m.answer) (news n) h)
 disabled m (stroke bs) h = refl
 disabled m pull h = refl
 disabled m plug h = refl

@@ -13,12 +13,12 @@ use Rattle.mouse.specs.declared.mouse.Mouse.{Mouse}
 use Rattle.mouse.specs.declared.mouse.Answer.{Answer}
 use Rattle.mouse.specs.Packets.{bytes_of, behind, or_else}
 use Rattle.mouse.specs.Mice.{began}
-use Rattle.mouse.specs.declared.mouse.Argument.{Argument}
-use Rattle.mouse.specs.declared.mouse.Argument.TheVariants.{Rate, Resolution}
+use Rattle.mouse.specs.declared.mouse.Awaited.{Awaited}
+use Rattle.mouse.specs.declared.mouse.Awaited.TheVariants as next
 use Rattle.mouse.specs.declared.command.Command.{Command}
 use Rattle.mouse.specs.declared.command.Command.TheVariants.{Scale1To1, Scale2To1, SetResolution, StatusRequest, SetStream, ReadData, ResetWrap, SetWrap, SetRemote, GetId, SetRate, Enable, Disable, SetDefaults, Resend}
 use Rattle.mouse.specs.Commands.{command_of}
-use Rattle.mouse.specs.Hearing.{replied, echoed, with_dialog, commanded, obeyed, heard_in, heard}
+use Rattle.mouse.specs.Hearing.{replied, echoed, with_awaited, commanded, obeyed, heard_in, heard}
 use Rattle.mouse.specs.Moving.{moved}
 
 abbrev pub answer_waiting : Bool → Packet → List Entry
@@ -29,7 +29,7 @@ answer_given true p l = record { acknowledges = false; packet = p; last = l }
 answer_given false p l = record { acknowledges = false; packet = behind p; last = l }
 
 abbrev pub with_answer : Answer → Mouse → Mouse
-with_answer a m = record { variant = m.variant; settings = m.settings; dialog = m.dialog; knock = m.knock; motion = m.motion; answer = a }
+with_answer a m = record { variant = m.variant; settings = m.settings; awaited = m.awaited; knock = m.knock; motion = m.motion; answer = a }
 
 abbrev pub mouse_waiting : Mouse → List Entry
 mouse_waiting m = answer_waiting m.answer.acknowledges m.answer.packet
@@ -88,19 +88,19 @@ pub obeyed_waits : (c : Option Command) (m : Mouse) → nonempty (mouse_waiting 
 obeyed_waits (Some c) m = commanded_waits c m
 obeyed_waits None m = refl
 
-pub wrapped_waits : (t : Bool) (b : ℕ) (m : Mouse) → nonempty (mouse_waiting (cond t (replied Empty (with_dialog false m.dialog.awaited m)) (echoed b m))) ≡ true
+pub wrapped_waits : (t : Bool) (b : ℕ) (m : Mouse) → nonempty (mouse_waiting (cond t (replied Empty (with_awaited next.Command m)) (echoed b m))) ≡ true
 wrapped_waits true b m = refl
 wrapped_waits false b m = refl
 
-pub heard_in_waits : (w : Bool) (a : Option Argument) (b : ℕ) (m : Mouse) → nonempty (mouse_waiting (heard_in w a b m)) ≡ true
-heard_in_waits true a b m = wrapped_waits (b == 0xEC) b m
-heard_in_waits false None b m = obeyed_waits (command_of b) m
-heard_in_waits false (Some Rate) b m = refl
-heard_in_waits false (Some Resolution) b m = refl
+pub heard_in_waits : (a : Awaited) (b : ℕ) (m : Mouse) → nonempty (mouse_waiting (heard_in a b m)) ≡ true
+heard_in_waits next.Command b m = obeyed_waits (command_of b) m
+heard_in_waits next.Rate b m = refl
+heard_in_waits next.Resolution b m = refl
+heard_in_waits next.Echo b m = wrapped_waits (b == 0xEC) b m
 
-pub heard_waits : (t : Bool) (b : ℕ) (m : Mouse) → nonempty (mouse_waiting (cond t (began m.variant true) (heard_in m.dialog.wrapped m.dialog.awaited b m))) ≡ true
+pub heard_waits : (t : Bool) (b : ℕ) (m : Mouse) → nonempty (mouse_waiting (cond t (began m.variant true) (heard_in m.awaited b m))) ≡ true
 heard_waits true b m = refl
-heard_waits false b m = heard_in_waits m.dialog.wrapped m.dialog.awaited b m
+heard_waits false b m = heard_in_waits m.awaited b m
 
 pub none_given : (m : Mouse) → mouse_waiting m ≡ [] → mouse_given m ≡ m
 none_given m e = ap (λ a. with_answer a m) (given_none m.answer.acknowledges m.answer.packet m.answer.last e)

@@ -11,6 +11,8 @@ use Rattle.mouse.specs.declared.settings.Identity.{Identity}
 use Rattle.mouse.specs.declared.settings.Identity.TheVariants.{Standard, Wheel, FiveButtons}
 use Rattle.mouse.specs.declared.settings.Mode.{Mode}
 use Rattle.mouse.specs.declared.settings.Mode.TheVariants.{Stream, Remote}
+use Rattle.mouse.specs.declared.mouse.Awaited.{Awaited}
+use Rattle.mouse.specs.declared.mouse.Awaited.TheVariants as next
 use Rattle.mouse.specs.declared.mouse.Mouse.{Mouse}
 use Rattle.mouse.specs.declared.mouse.Answer.{Answer}
 use Rattle.ps2.specs.Kinds.{nonempty}
@@ -31,7 +33,7 @@ abbrev pub sampled : Mouse → ℤ → ℤ → ℤ → ℕ → Mouse
 sampled m x y w b = record {
   variant = m.variant;
   settings = m.settings;
-  dialog = m.dialog;
+  awaited = m.awaited;
   knock = m.knock;
   answer = m.answer;
   motion = record { counters = counters_moved m.knock.id m.motion.counters x y w; buttons = b; reported = m.motion.reported };
@@ -47,6 +49,12 @@ abbrev pub streams : Mode → Bool
 streams Stream = true
 streams Remote = false
 
+abbrev pub wraps : Awaited → Bool
+wraps next.Command = false
+wraps next.Rate = false
+wraps next.Resolution = false
+wraps next.Echo = true
+
 abbrev pub silent : Answer → Bool
 silent a = not a.acknowledges && not (nonempty (bytes_of a.packet))
 
@@ -54,7 +62,7 @@ abbrev pub news : Mouse → Bool
 news m = counters_set m.motion.counters || not (shown_buttons m.knock.id m.motion.buttons == m.motion.reported)
 
 abbrev pub free : Mouse → Bool
-free m = streams m.settings.mode && (not m.dialog.wrapped && (m.settings.reporting && silent m.answer))
+free m = streams m.settings.mode && (not (wraps m.awaited) && (m.settings.reporting && silent m.answer))
 
 abbrev pub reports : Mouse → Bool
 reports m = free m && news m
@@ -70,7 +78,7 @@ abbrev pub queued : Mouse → Mouse
 queued m = record {
   variant = m.variant;
   settings = m.settings;
-  dialog = m.dialog;
+  awaited = m.awaited;
   knock = m.knock;
   motion = record { counters = still; buttons = m.motion.buttons; reported = shown_buttons m.knock.id m.motion.buttons };
   answer = record { acknowledges = false; packet = stream_packet m; last = stream_packet m };

@@ -11,18 +11,14 @@ mod hearing;
 mod mouse_device;
 mod moving;
 
-// What a command is followed by.
-#[derive(Clone, Copy)]
-enum Argument {
+// What the next byte from the host is taken for, unless it is a Reset.
+#[derive(Clone, Copy, PartialEq, Eq)]
+enum Awaited {
+    Command,
     Rate,
     Resolution,
-}
-
-// Where the talk with the host stands.
-#[derive(Clone, Copy)]
-struct Dialog {
-    wrapped: bool,
-    awaited: Option<Argument>,
+    // Wrap mode: it is echoed
+    Echo,
 }
 
 // What was sampled since the last packet, and the buttons that were last reported.
@@ -45,7 +41,7 @@ struct Answer {
 pub struct Mouse {
     variant: Variant,
     settings: Settings,
-    dialog: Dialog,
+    awaited: Awaited,
     knock: Knock,
     motion: Motion,
     answer: Answer,
@@ -82,10 +78,7 @@ fn begun(variant: Variant, acknowledges: bool) -> Mouse
     Mouse {
         variant,
         settings: Settings::defaults(),
-        dialog: Dialog {
-            wrapped: false,
-            awaited: None,
-        },
+        awaited: Awaited::Command,
         knock: Knock {
             id: Identity::Standard,
             rates: (0, 0, 0),

@@ -3,7 +3,7 @@ ghost use Rattle.std.specs.Prelude.{◌≡◌};
 ghost use Rattle.mouse.specs.Commands.{command_of};
 ghost use Rattle.mouse.specs.Hearing.{replied, echoed, resent, data_read, commanded, obeyed, rated, resolved, argued, wrapped_heard, heard_in, heard};
 
-use super::{Answer, Argument, Mouse, NO_MOVEMENT, SELF_TEST_PASSED, begun};
+use super::{Answer, Awaited, Mouse, NO_MOVEMENT, SELF_TEST_PASSED, begun};
 use crate::command::Command;
 use crate::packet::Packet;
 use crate::report::{movement_packet, shown_buttons, status_packet};
@@ -68,11 +68,11 @@ impl Mouse {
             Command::GetId => return self.reply(Packet::One(self.knock.id.number())),
             Command::Scale1To1 => self.settings.doubled = false,
             Command::Scale2To1 => self.settings.doubled = true,
-            Command::SetResolution => self.dialog.awaited = Some(Argument::Resolution),
-            Command::SetRate => self.dialog.awaited = Some(Argument::Rate),
+            Command::SetResolution => self.awaited = Awaited::Resolution,
+            Command::SetRate => self.awaited = Awaited::Rate,
             Command::SetStream => self.settings.mode = Mode::Stream,
             Command::SetRemote => self.settings.mode = Mode::Remote,
-            Command::SetWrap => self.dialog.wrapped = true,
+            Command::SetWrap => self.awaited = Awaited::Echo,
             Command::Enable => self.settings.reporting = true,
             Command::Disable => self.settings.reporting = false,
             Command::SetDefaults => self.settings = Settings::defaults(),
@@ -111,7 +111,7 @@ impl Mouse {
     fn end_argument(&mut self)
         ensures { self.new ≡ argued self.old }
     {
-        self.dialog.awaited = None;
+        self.awaited = Awaited::Command;
         self.reply(Packet::Empty)
     }
 
@@ -119,7 +119,7 @@ impl Mouse {
         ensures { self.new ≡ wrapped_heard byte self.old }
     {
         if byte == RESET_WRAP {
-            self.dialog.wrapped = false;
+            self.awaited = Awaited::Command;
             self.reply(Packet::Empty)
         } else {
             self.echo(byte)
@@ -128,21 +128,19 @@ impl Mouse {
 
     // A byte that is no Reset.
     fn hear_on(&mut self, byte: u8)
-        ensures { self.new ≡ heard_in self.old.dialog.wrapped self.old.dialog.awaited byte self.old }
+        ensures { self.new ≡ heard_in self.old.awaited byte self.old }
     {
-        if self.dialog.wrapped {
-            return self.hear_wrapped(byte);
-        }
-        match self.dialog.awaited {
-            None => self.obey(byte),
-            Some(Argument::Rate) => {
+        match self.awaited {
+            Awaited::Command => self.obey(byte),
+            Awaited::Rate => {
                 self.set_rate(byte);
                 self.end_argument()
             }
-            Some(Argument::Resolution) => {
+            Awaited::Resolution => {
                 self.set_resolution(byte);
                 self.end_argument()
             }
+            Awaited::Echo => self.hear_wrapped(byte),
         }
     }
 

@@ -2,7 +2,7 @@
 ghost use Rattle.std.specs.Prelude.{◌≡◌};
 ghost use Rattle.mouse.specs.Moving.{wheel_counted, sampled, axis_set, counters_set, silent, news, free, shown_counters, queued, reported, moved};
 
-use super::{Answer, Mouse, NO_MOVEMENT};
+use super::{Answer, Awaited, Mouse, NO_MOVEMENT};
 use crate::counters::{Axis, Counters, wheel_moved};
 use crate::report::{movement_packet, shown_buttons};
 use crate::settings::{Identity, Mode};
@@ -82,7 +82,7 @@ impl Mouse {
         ensures { result ≡ free self.now }
     {
         self.settings.mode == Mode::Stream
-            && !self.dialog.wrapped
+            && self.awaited != Awaited::Echo
             && self.settings.reporting
             && self.answer.is_silent()
     }
