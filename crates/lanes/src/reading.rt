@@ -27,7 +27,7 @@ fn is_set(byte: u8, k: u32) -> bool
     requires { k < 8 }
     ensures { result ≡ bit k byte }
 {
-    (byte >> k) % 2 == 1
+    (byte >> k) & 1 == 1
 }
 
 // The port whose device gave the data byte, if one did and the byte is good.
