@@ -1,7 +1,7 @@
 // A port's lane: the data of its readings, in their order.
 ghost use Rattle.std.specs.Prelude.{◌≡◌, ◌≤◌, not, ◌++◌, length, drop};
 ghost use Rattle.lanes.specs.Readings.{good, is_of};
-ghost use Rattle.lanes.specs.Lanes.{lane, size_answer, fill_answer, filled, untagged_answer, Joins, AddsUp};
+ghost use Rattle.lanes.specs.Lanes.{lane, untagged, errors, size_answer, fill_answer, filled, untagged_answer, Joins, AddsUp};
 
 use crate::reading::{data_of, is_aux_error, port_of};
 use ps2::refusal::Refusal;
@@ -74,8 +74,19 @@ fn is_untagged(reading: u16) -> bool
     port_of(reading).is_none()
 }
 
+#[tactic(auto, unfolding(crate::specs::Lanes::untagged, crate::specs::Lanes::errors))]
+fn tally(readings: &[u16]) -> Untagged
+    ensures total { result.total ≡ untagged readings.now }
+    ensures errors { result.errors ≡ errors readings.now }
+{
+    Untagged {
+        total: readings.iter().filter(|r| is_untagged(**r)).count(),
+        errors: readings.iter().filter(|r| is_aux_error(**r)).count(),
+    }
+}
+
 // The readings that no lane has: their number and the sizes of the lanes add up.
-#[tactic(auto, using(crate::proofs::Laws::joins, crate::proofs::Laws::adds_up), unfolding(crate::specs::Lanes::untagged, crate::specs::Lanes::errors))]
+#[tactic(auto, using(crate::proofs::Laws::joins, crate::proofs::Laws::adds_up))]
 pub fn count_untagged(readings: &[u16]) -> Result<Untagged, Refusal>
     ensures value { result ≡ untagged_answer readings.now }
     ensures adds_up { AddsUp readings.now }
@@ -84,8 +95,5 @@ pub fn count_untagged(readings: &[u16]) -> Result<Untagged, Refusal>
     if readings.len() > MOST_READINGS {
         return Err(Refusal::TooManyReadings);
     }
-    Ok(Untagged {
-        total: readings.iter().filter(|r| is_untagged(**r)).count(),
-        errors: readings.iter().filter(|r| is_aux_error(**r)).count(),
-    })
+    Ok(tally(readings))
 }
