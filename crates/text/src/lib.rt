@@ -1,18 +1,14 @@
 // Bytes as hexadecimal text.
 #![tactic(auto)]
 
-ghost use Rattle.std.specs.Prelude.{◌≡◌, ◌<◌, ◌∷◌, Some};
-ghost use Rattle.text.specs.Hex.{hex_digit, hex, spaced};
+ghost use Rattle.std.specs.Prelude.{Some};
+ghost use Rattle.text.specs.Hex.{hex, spaced};
 
 use std::fmt;
 
 // A byte as two lowercase digits.
 #[derive(Clone, Copy)]
 pub struct Hex(pub u8);
-
-// The same behind a space.
-#[derive(Clone, Copy)]
-struct Spaced(u8);
 
 // Each byte as a space and two lowercase digits.
 #[derive(Clone, Copy)]
@@ -28,21 +24,13 @@ impl fmt::Display for Hex {
     }
 }
 
-impl fmt::Display for Spaced {
-    ghost output = { λ s. Some (32 ∷ hex s.0) };
-
-    fn fmt<W: fmt::Write>(&self, f: &mut fmt::Formatter<W>) -> fmt::Result {
-        let pair = Hex(self.0);
-        write!(f, " {pair}")
-    }
-}
-
 impl<'a> fmt::Display for HexBytes<'a> {
     ghost output = { λ h. Some (spaced h.0.now) };
 
+    #[tactic(auto, using(crate::proofs::Spacing::spacing))]
     fn fmt<W: fmt::Write>(&self, f: &mut fmt::Formatter<W>) -> fmt::Result {
-        for byte in self.0 {
-            f.write(Spaced(*byte))?;
+        for &byte in self.0 {
+            write!(f, " {byte:02x}")?;
         }
         Ok(())
     }
