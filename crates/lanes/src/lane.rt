@@ -20,12 +20,10 @@ pub struct Untagged {
 fn is_of(reading: u16, port: u8) -> bool
     ensures { result ≡ is_of port reading }
 {
-    match port_of(reading) {
-        Some(tag) => tag == port,
-        None => false,
-    }
+    port_of(reading) == Some(port)
 }
 
+#[tactic(auto, using(crate::proofs::Laws::size_first, crate::proofs::Laws::lane_short))]
 fn count(readings: &[u16], port: u8) -> usize
     ensures { result ≡ length (lane port readings.now) }
 {
@@ -52,12 +50,8 @@ fn copy_lane(readings: &[u16], port: u8, out: &mut [u8])
     requires { length (lane port readings.now) ≤ length out.old }
     ensures { out.new ≡ lane port readings.now ++ drop (length (lane port readings.now)) out.old }
 {
-    let mut size = 0;
-    for reading in readings {
-        if is_of(*reading, port) {
-            out[size] = data_of(*reading);
-            size += 1;
-        }
+    for (place, reading) in readings.iter().filter(|r| is_of(**r, port)).enumerate() {
+        out[place] = data_of(*reading);
     }
 }
 
@@ -80,43 +74,26 @@ fn is_untagged(reading: u16) -> bool
     port_of(reading).is_none()
 }
 
-fn count_none(readings: &[u16]) -> usize
-    ensures { result ≡ untagged readings.now }
+#[tactic(auto, unfolding(crate::specs::Lanes::untagged, crate::specs::Lanes::errors))]
+fn tally(readings: &[u16]) -> Untagged
+    ensures total { result.total ≡ untagged readings.now }
+    ensures errors { result.errors ≡ errors readings.now }
 {
-    let mut total = 0;
-    for reading in readings {
-        total += is_untagged(*reading) as usize;
+    Untagged {
+        total: readings.iter().filter(|r| is_untagged(**r)).count(),
+        errors: readings.iter().filter(|r| is_aux_error(**r)).count(),
     }
-    total
-}
-
-fn count_aux_errors(readings: &[u16]) -> usize
-    ensures { result ≡ errors readings.now }
-{
-    let mut total = 0;
-    for reading in readings {
-        total += is_aux_error(*reading) as usize;
-    }
-    total
-}
-
-fn tally(readings: &[u16]) -> Result<Untagged, Refusal>
-    ensures { result ≡ untagged_answer readings.now }
-{
-    if readings.len() > MOST_READINGS {
-        return Err(Refusal::TooManyReadings);
-    }
-    Ok(Untagged {
-        total: count_none(readings),
-        errors: count_aux_errors(readings),
-    })
 }
 
 // The readings that no lane has: their number and the sizes of the lanes add up.
+#[tactic(auto, using(crate::proofs::Laws::joins, crate::proofs::Laws::adds_up))]
 pub fn count_untagged(readings: &[u16]) -> Result<Untagged, Refusal>
     ensures value { result ≡ untagged_answer readings.now }
     ensures adds_up { AddsUp readings.now }
     ensures joins { Joins }
 {
-    tally(readings)
+    if readings.len() > MOST_READINGS {
+        return Err(Refusal::TooManyReadings);
+    }
+    Ok(tally(readings))
 }

@@ -12,20 +12,22 @@ const AUX: u32 = 5;
 fn status_of(reading: u16) -> u8
     ensures { result ≡ status reading }
 {
-    (reading >> 8) as u8
+    let [status, _] = reading.to_be_bytes();
+    status
 }
 
 pub(crate) fn data_of(reading: u16) -> u8
     ensures { result ≡ data_byte reading }
 {
-    (reading % 256) as u8
+    let [_, data] = reading.to_be_bytes();
+    data
 }
 
 fn is_set(byte: u8, k: u32) -> bool
     requires { k < 8 }
     ensures { result ≡ bit k byte }
 {
-    (byte >> k) % 2 == 1
+    (byte >> k) & 1 == 1
 }
 
 // The port whose device gave the data byte, if one did and the byte is good.

@@ -1,8 +1,8 @@
 // Bytes as hexadecimal text.
 #![tactic(auto)]
 
-ghost use Rattle.std.specs.Prelude.{◌≡◌, ◌<◌, ◌∷◌, Some};
-ghost use Rattle.text.specs.Hex.{hex_digit, hex, spaced};
+ghost use Rattle.std.specs.Prelude.{Some};
+ghost use Rattle.text.specs.Hex.{hex, spaced};
 
 use std::fmt;
 
@@ -10,51 +10,27 @@ use std::fmt;
 #[derive(Clone, Copy)]
 pub struct Hex(pub u8);
 
-// The same behind a space.
-#[derive(Clone, Copy)]
-struct Spaced(u8);
-
 // Each byte as a space and two lowercase digits.
 #[derive(Clone, Copy)]
 pub struct HexBytes<'a>(pub &'a [u8]);
 
-fn digit(n: u8) -> char
-    requires { n < 16 }
-    ensures value { result ≡ hex_digit n }
-    ensures ascii { result < 128 }
-{
-    if n < 10 {
-        (b'0' + n) as char
-    } else {
-        (b'a' + (n - 10)) as char
-    }
-}
-
 impl fmt::Display for Hex {
     ghost output = { λ h. Some (hex h.0) };
 
+    #[tactic(auto, using(std::proofs::lemmas::Fmt::hex_byte))]
     fn fmt<W: fmt::Write>(&self, f: &mut fmt::Formatter<W>) -> fmt::Result {
-        let high = digit(self.0 / 16);
-        let low = digit(self.0 % 16);
-        write!(f, "{high}{low}")
-    }
-}
-
-impl fmt::Display for Spaced {
-    ghost output = { λ s. Some (32 ∷ hex s.0) };
-
-    fn fmt<W: fmt::Write>(&self, f: &mut fmt::Formatter<W>) -> fmt::Result {
-        let pair = Hex(self.0);
-        write!(f, " {pair}")
+        let byte = self.0;
+        write!(f, "{byte:02x}")
     }
 }
 
 impl<'a> fmt::Display for HexBytes<'a> {
     ghost output = { λ h. Some (spaced h.0.now) };
 
+    #[tactic(auto, using(crate::proofs::Spacing::spacing))]
     fn fmt<W: fmt::Write>(&self, f: &mut fmt::Formatter<W>) -> fmt::Result {
-        for byte in self.0 {
-            f.write(Spaced(*byte))?;
+        for &byte in self.0 {
+            write!(f, " {byte:02x}")?;
         }
         Ok(())
     }

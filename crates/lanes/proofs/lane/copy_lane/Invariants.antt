@@ -1,5 +1,7 @@
-use Rattle.lanes.proofs.Filling.{Filling}
+use Rattle.std.proofs.Common.{◌≡◌, length}
+use Rattle.lanes.specs.Lanes.{lane}
+use lib.Seq.{paste}
 use Rattle.lanes.proofs.lane.copy_lane.Given as goal
 
-abbrev pub invariant-loop-reading : goal.invariant-loop-reading
-invariant-loop-reading l = Filling l.port l.readings l.initial.out l.out l.size l.reading-index
+abbrev pub invariant-loop-place : goal.invariant-loop-place
+invariant-loop-place l = l.out ≡ paste l.initial.out 0 (lane l.fn.port l.fn.readings) (length l.yielded)
