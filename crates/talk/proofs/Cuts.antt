@@ -1,5 +1,5 @@
 -- Texts cut at a character.
-use Rattle.std.proofs.Common.{◌≡◌, ℕ, suc, ◌<◌, ◌≤◌, Bool, true, false, cond, eqb, List, [], ◌∷◌, ◌++◌, length, get_or, refl, ap, arith, eq-eqb, ne_eqb}
+use Rattle.std.proofs.Common.{◌≡◌, ℕ, suc, ◌<◌, ◌≤◌, Bool, true, false, cond, eqb, List, [], ◌∷◌, ◌++◌, length, get_or, Bor, Option, None, Some, MatchOption, unwrap_or, sym, refl, ap, ◌∙◌, arith, eq-eqb, ne_eqb}
 use Rattle.talk.specs.Texts.{before, behind, in_front, lines_of}
 
 -- no c in a text
@@ -34,6 +34,11 @@ pub behind_none : (c : ℕ) (t : List ℕ) → Lacks c t → behind c t ≡ []
 unfolding behind
 behind_none c [] h = refl
 behind_none c (b ∷ t) h = rw (lacks_head c b t h) (behind_none c t (lacks_tail c b t h))
+
+-- a cut at the first c gives its two parts, or the whole text and nothing behind it
+pub cut_at_first : (c : ℕ) (t : List ℕ) (o : Option (Bor (List ℕ) × Bor (List ℕ))) (d r : Bor (List ℕ) × Bor (List ℕ)) → MatchOption o (Lacks c t) (λ x. (t ≡ x.0.now ++ (c ∷ x.1.now)) × Lacks c x.0.now) → d.0.now ≡ t → d.1.now ≡ [] → r ≡ unwrap_or o d → (r.0.now ≡ before c t) × (r.1.now ≡ behind c t)
+cut_at_first c t None d r h e f g = (ap (λ x. x.0.now) g ∙ e ∙ sym (before_none c t h), ap (λ x. x.1.now) g ∙ f ∙ sym (behind_none c t h))
+cut_at_first c t (Some x) d r h e f g = (ap (λ x. x.0.now) g ∙ sym (ap (before c) h.0 ∙ before_at c _ _ h.1), ap (λ x. x.1.now) g ∙ sym (ap (behind c) h.0 ∙ behind_at c _ _ h.1))
 
 -- the lines of a text that is not empty: the first, and those behind it
 by_end : (end : Bool) (b : ℕ) (t : List ℕ) → in_front b (lines_of t) ≡ (b ∷ before 10 t) ∷ lines_of (behind 10 t) → cond end ([] ∷ lines_of t) (in_front b (lines_of t)) ≡ cond end [] (b ∷ before 10 t) ∷ lines_of (cond end t (behind 10 t))

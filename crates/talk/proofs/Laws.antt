@@ -34,15 +34,15 @@ note_keeps (Power v) None p e = let f = (same_step _ _ _ _ e).0 in let z : ◌�
 note_keeps (Power v) (Some m) p e = let f = (same_step _ _ _ _ e).0 in let z : ◌≡◌ {A = ℕ} 0 1 = cc in absurd (omega arith)
 note_keeps (Host b) None p e = let z : ◌≡◌ {A = ℕ} 0 1 = cc in absurd (omega arith)
 note_keeps (Host b) (Some m) p e = let f = (same_step _ _ _ _ e).0 in let z : ◌≡◌ {A = ℕ} 0 1 = cc in absurd (omega arith)
-note_keeps (Move x y w b) None p e = let z : ◌≡◌ {A = ℕ} 0 1 = cc in absurd (omega arith)
-note_keeps (Move x y w b) (Some m) p e = let f = (same_step _ _ _ _ e).0 in let z : ◌≡◌ {A = ℕ} 0 1 = cc in absurd (omega arith)
+note_keeps (Move d) None p e = let z : ◌≡◌ {A = ℕ} 0 1 = cc in absurd (omega arith)
+note_keeps (Move d) (Some m) p e = let f = (same_step _ _ _ _ e).0 in let z : ◌≡◌ {A = ℕ} 0 1 = cc in absurd (omega arith)
 
 quiet_by : (r : Result Step Fault) (m : Option Mouse) (s : Step) (p : Option Mouse) → Quiet m → taken r m ≡ Ok (s, p) → Quiet (left_by s p)
 quiet_by (Ok t) m Note p h e = subst Quiet (note_keeps t m p e) h
 quiet_by (Err f) m Note p h e = let z : ◌≡◌ {A = ℕ} 0 1 = cc in absurd (omega arith)
 quiet_by r m (Power v) p h e = drained_quiet p
 quiet_by r m (Host b) p h e = drained_quiet p
-quiet_by r m (Move x y w b) p h e = drained_quiet p
+quiet_by r m (Move d) p h e = drained_quiet p
 
 pub settled : (l : List ℕ) (m : Option Mouse) (s : Step) (p : Option Mouse) → Quiet m → taken (step_of l) m ≡ Ok (s, p) → Quiet (left_by s p)
 settled l m s p h e = quiet_by (step_of l) m s p h e

@@ -6,6 +6,7 @@ use Rattle.std.proofs.lemmas.List.Sums.{fold_push}
 use Rattle.std.proofs.lemmas.Bool.{and_parts}
 use Rattle.std.proofs.lemmas.Bool.Decides.{nat_tests}
 use Rattle.std.proofs.lemmas.Int.{ints}
+use Rattle.ps2.specs.declared.event.Movement.{Movement}
 use Rattle.ps2.specs.Events.{axis_in_range, wheel_in_range}
 use Rattle.mouse.specs.declared.settings.Variant.TheVariants.{Plain, Wheel}
 use Rattle.talk.specs.declared.step.Step.{Step}
@@ -82,26 +83,26 @@ byte_back : (b : ℕ) → b < 256 → byte_of (hex b) ≡ Some b
 byte_back b h = (λ k. paired (nibble_back (b / 16) (omega arith) k) (nibble_back (b % 16) (omega arith) k)) ∙ ap Some (omega arith)
 
 -- four numbers, read back
-module _ (x y w : ℤ) (b : ℕ) (xs : nat_abs x < 1000) (ys : nat_abs y < 1000) (ws : nat_abs w < 1000) (bs : b < 1000) where
+module _ (d : Movement) (xs : nat_abs d.dx < 1000) (ys : nat_abs d.dy < 1000) (ws : nat_abs d.wheel < 1000) (bs : d.buttons < 1000) where
   abbrev two : List ℕ
-  two = signed_decimal w ++ (32 ∷ decimal b)
+  two = signed_decimal d.wheel ++ (32 ∷ decimal d.buttons)
 
   abbrev three : List ℕ
-  three = signed_decimal y ++ (32 ∷ two)
+  three = signed_decimal d.dy ++ (32 ∷ two)
 
-  move_back : move_of (signed_decimal x ++ (32 ∷ three)) ≡ ranged x y w b
+  move_back : move_of (signed_decimal d.dx ++ (32 ∷ three)) ≡ ranged d
   move_back =
-      let t = signed_decimal x ++ (32 ∷ three) in
-      let fx : before 32 t ≡ signed_decimal x = before_at 32 (signed_decimal x) three (signed_lacks x xs) in
-      let tx : behind 32 t ≡ three = behind_at 32 (signed_decimal x) three (signed_lacks x xs) in
-      let fy : before 32 three ≡ signed_decimal y = before_at 32 (signed_decimal y) two (signed_lacks y ys) in
-      let ty : behind 32 three ≡ two = behind_at 32 (signed_decimal y) two (signed_lacks y ys) in
-      let fw : before 32 two ≡ signed_decimal w = before_at 32 (signed_decimal w) (decimal b) (signed_lacks w ws) in
-      let tw : behind 32 two ≡ decimal b = behind_at 32 (signed_decimal w) (decimal b) (signed_lacks w ws) in
-      let nx = ap number_of fx ∙ number_back x xs in
-      let ny = ap (λ u. number_of (before 32 u)) tx ∙ ap number_of fy ∙ number_back y ys in
-      let nw = ap (λ u. number_of (before 32 (behind 32 u))) tx ∙ ap (λ u. number_of (before 32 u)) ty ∙ ap number_of fw ∙ number_back w ws in
-      let nb = ap (λ u. count_of (behind 32 (behind 32 u))) tx ∙ ap (λ u. count_of (behind 32 u)) ty ∙ ap count_of tw ∙ count_back b bs in
+      let t = signed_decimal d.dx ++ (32 ∷ three) in
+      let fx : before 32 t ≡ signed_decimal d.dx = before_at 32 (signed_decimal d.dx) three (signed_lacks d.dx xs) in
+      let tx : behind 32 t ≡ three = behind_at 32 (signed_decimal d.dx) three (signed_lacks d.dx xs) in
+      let fy : before 32 three ≡ signed_decimal d.dy = before_at 32 (signed_decimal d.dy) two (signed_lacks d.dy ys) in
+      let ty : behind 32 three ≡ two = behind_at 32 (signed_decimal d.dy) two (signed_lacks d.dy ys) in
+      let fw : before 32 two ≡ signed_decimal d.wheel = before_at 32 (signed_decimal d.wheel) (decimal d.buttons) (signed_lacks d.wheel ws) in
+      let tw : behind 32 two ≡ decimal d.buttons = behind_at 32 (signed_decimal d.wheel) (decimal d.buttons) (signed_lacks d.wheel ws) in
+      let nx = ap number_of fx ∙ number_back d.dx xs in
+      let ny = ap (λ u. number_of (before 32 u)) tx ∙ ap number_of fy ∙ number_back d.dy ys in
+      let nw = ap (λ u. number_of (before 32 (behind 32 u))) tx ∙ ap (λ u. number_of (before 32 u)) ty ∙ ap number_of fw ∙ number_back d.wheel ws in
+      let nb = ap (λ u. count_of (behind 32 (behind 32 u))) tx ∙ ap (λ u. count_of (behind 32 u)) ty ∙ ap count_of tw ∙ count_back d.buttons bs in
       λ k. movement_of (nx k) (ny k) (nw k) (nb k)
 
 -- a word, a space and what stands behind them
@@ -124,9 +125,9 @@ read_back Note h = absurd h
 read_back (Power Plain) h = refl
 read_back (Power Wheel) h = refl
 read_back (Host b) h = host_word (hex b) ∙ ap host_of (byte_back b h)
-read_back (Move x y w b) h =
-    let p = and_parts (axis_in_range x) _ h in
-    let q = and_parts (axis_in_range y) _ p.1 in
-    let r = and_parts (wheel_in_range w) _ q.1 in
-    let few : b < 1000 = omega (arith, leb-true b 31 r.1) in
-    move_word (signed_decimal x ++ (32 ∷ (signed_decimal y ++ (32 ∷ (signed_decimal w ++ (32 ∷ decimal b)))))) ∙ move_back x y w b (axis_small x p.0) (axis_small y q.0) (wheel_small w r.0) few ∙ rw h refl
+read_back (Move d) h =
+    let p = and_parts (axis_in_range d.dx) _ h in
+    let q = and_parts (axis_in_range d.dy) _ p.1 in
+    let r = and_parts (wheel_in_range d.wheel) _ q.1 in
+    let few : d.buttons < 1000 = omega (arith, leb-true d.buttons 31 r.1) in
+    move_word (signed_decimal d.dx ++ (32 ∷ (signed_decimal d.dy ++ (32 ∷ (signed_decimal d.wheel ++ (32 ∷ decimal d.buttons)))))) ∙ move_back d (axis_small d.dx p.0) (axis_small d.dy q.0) (wheel_small d.wheel r.0) few ∙ rw h refl

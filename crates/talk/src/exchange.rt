@@ -8,10 +8,11 @@ ghost use Rattle.talk.specs.TalkLaws.{Laws};
 
 use crate::fault::Fault;
 use crate::parse::{cut, step_of};
-use crate::step::{Step, movement_of};
+use crate::step::Step;
 use mouse::mouse::Mouse;
 use ps2::device::Device;
 use ps2::entry::Entry;
+use ps2::event::Event;
 use std::alloc::{AllocError, Global};
 use text::Hex;
 
@@ -25,13 +26,8 @@ fn act(mouse: &mut Mouse, step: Step)
         Step::Host(byte) => {
             mouse.receive(byte);
         }
-        Step::Move {
-            dx,
-            dy,
-            wheel,
-            buttons,
-        } => {
-            let _ = mouse.event(movement_of(dx, dy, wheel, buttons));
+        Step::Move(movement) => {
+            let _ = mouse.event(Event::Movement(movement));
         }
     }
 }
@@ -50,7 +46,7 @@ fn play(mouse: &mut Option<Mouse>, step: Step) -> Result<(), Fault>
             *mouse = Some(Mouse::new(variant));
             Ok(())
         }
-        Step::Host(_) | Step::Move { .. } => Err(Fault::NoMouse),
+        Step::Host(_) | Step::Move(_) => Err(Fault::NoMouse),
     }
 }
 
@@ -99,7 +95,7 @@ fn write_step(
 {
     match step {
         Step::Note => write!(text, "{line}\n"),
-        Step::Power(_) | Step::Host(_) | Step::Move { .. } => write_played(text, mouse, step),
+        Step::Power(_) | Step::Host(_) | Step::Move(_) => write_played(text, mouse, step),
     }
 }
 
@@ -142,10 +138,8 @@ fn text_of(heap: Global, input: &str) -> Result<String, AllocError>
     ensures { IfOk result (λ t. string_bytes t ≡ exchanged input.now) }
 {
     let mut text = String::new(heap);
-    match write_lines(&mut text, input) {
-        Ok(()) => Ok(text),
-        Err(memory) => Err(memory),
-    }
+    write_lines(&mut text, input)?;
+    Ok(text)
 }
 
 // A talk with a mouse: each line of the input with what the mouse gives then.

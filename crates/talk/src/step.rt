@@ -1,10 +1,9 @@
 // A step of a talk: a note, or something that is done to the mouse.
-ghost use Rattle.std.specs.Prelude.{◌≡◌, Some};
-ghost use Rattle.ps2.specs.Events.{told, movement};
+ghost use Rattle.std.specs.Prelude.{Some};
 ghost use Rattle.talk.specs.StepWords.{variant_words, step_words};
 
 use mouse::settings::Variant;
-use ps2::event::Event;
+use ps2::event::Movement;
 use std::fmt;
 use text::Hex;
 
@@ -13,12 +12,7 @@ pub(crate) enum Step {
     Note,
     Power(Variant),
     Host(u8),
-    Move {
-        dx: i16,
-        dy: i16,
-        wheel: i8,
-        buttons: u8,
-    },
+    Move(Movement),
 }
 
 // A model by its name.
@@ -50,23 +44,7 @@ impl fmt::Display for Step {
                 let byte = Hex(byte);
                 write!(f, "host {byte}")
             }
-            Step::Move {
-                dx,
-                dy,
-                wheel,
-                buttons,
-            } => write!(f, "move {dx} {dy} {wheel} {buttons}"),
+            Step::Move(m) => write!(f, "move {} {} {} {}", m.dx, m.dy, m.wheel, m.buttons),
         }
-    }
-}
-
-pub(crate) fn movement_of(dx: i16, dy: i16, wheel: i8, buttons: u8) -> Event<'static>
-    ensures { told result ≡ movement dx dy wheel buttons }
-{
-    Event::Movement {
-        dx,
-        dy,
-        wheel,
-        buttons,
     }
 }
