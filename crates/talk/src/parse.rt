@@ -43,7 +43,7 @@ fn move_step(text: &str) -> Result<Step, Fault>
     ) else {
         return Err(Fault::BadMovement);
     };
-    let (Ok(wheel), Ok(buttons)) = (i8::try_from(wheel), u8::try_from(buttons)) else {
+    let (Ok(wheel), Ok(buttons)) = (i8::try_from(wheel), u8::try_from(buttons.get())) else {
         return Err(Fault::OutOfRange);
     };
     let movement = Movement {
