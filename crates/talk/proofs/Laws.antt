@@ -1,5 +1,5 @@
 -- The laws of a talk, proved.
-use Rattle.std.proofs.Common.{◌≡◌, ℕ, ◌+◌, Bool, true, false, cond, eqb, List, [], ◌∷◌, ◌++◌, length, Some, None, Ok, Err, Option, Result, sym, refl, ap, ◌∙◌, subst, append_assoc, append-nil, arith}
+use Rattle.std.proofs.Common.{◌≡◌, ℕ, ◌+◌, ◌<◌, Bool, true, false, cond, eqb, List, [], ◌∷◌, ◌++◌, length, Some, None, Ok, Err, Option, Result, sym, refl, ap, ◌∙◌, subst, append_assoc, append-nil, arith}
 use Rattle.ps2.specs.declared.entry.Entry.{Entry}
 use Rattle.ps2.specs.Kinds.{rest}
 use Rattle.mouse.specs.declared.mouse.Mouse.{Mouse}
@@ -11,7 +11,6 @@ use Rattle.talk.specs.Texts.{in_front, lines_of}
 use Rattle.talk.specs.Steps.{step_of}
 use Rattle.talk.specs.Exchanged.{playing, given_all, any_drained, step_line, left_by, beside, taken, turn, played, exchanged}
 use Rattle.talk.specs.TalkLaws.{Quiet}
-use Rattle.talk.proofs.Cuts.{lines_cut}
 
 -- a mouse that gave all that waited has nothing waiting
 settled_by : (es : List Entry) (m : Mouse) → mouse_kind.waiting m ≡ es → mouse_kind.waiting (given_all es m) ≡ []
@@ -47,10 +46,19 @@ quiet_by r m (Move d) p h e = drained_quiet p
 pub settled : (l : List ℕ) (m : Option Mouse) (s : Step) (p : Option Mouse) → Quiet m → taken (step_of l) m ≡ Ok (s, p) → Quiet (left_by s p)
 settled l m s p h e = quiet_by (step_of l) m s p h e
 
+some_by : (end : Bool) (b : ℕ) (ls : List (List ℕ)) → 0 < length (cond end ([] ∷ ls) (in_front b ls))
+some_by true b ls = omega arith
+some_by false b [] = omega arith
+some_by false b (l ∷ ls) = omega arith
+
+some_lines : (b : ℕ) (t : List ℕ) → 0 < length (lines_of (b ∷ t))
+unfolding lines_of
+some_lines b t = some_by (eqb b 10) b (lines_of t)
+
 -- the lines of a text are lines of any text that goes on behind a newline
-front_join : (b : ℕ) (ls ks : List (List ℕ)) (x : List ℕ) (xs : List (List ℕ)) → ls ≡ x ∷ xs → in_front b (ls ++ ks) ≡ in_front b ls ++ ks
-front_join b [] ks x xs h = let z : ◌≡◌ {A = ℕ} 0 1 = omega (arith, ap length h) in absurd (omega arith)
-front_join b (l ∷ ls) ks x xs h = refl
+front_join : (b : ℕ) (ls ks : List (List ℕ)) → 0 < length ls → in_front b (ls ++ ks) ≡ in_front b ls ++ ks
+front_join b [] ks h = absurd (omega arith)
+front_join b (l ∷ ls) ks h = refl
 
 one_join : (end : Bool) (b : ℕ) (u : List ℕ) → (ks : List (List ℕ)) × (cond end ([] ∷ ([] ∷ lines_of u)) (in_front b ([] ∷ lines_of u)) ≡ cond end ([] ∷ []) (in_front b []) ++ ks)
 one_join true b u = ([] ∷ lines_of u, refl)
@@ -58,7 +66,7 @@ one_join false b u = (lines_of u, refl)
 
 more_join : (end : Bool) (b d : ℕ) (t : List ℕ) (js ks : List (List ℕ)) → js ≡ lines_of (d ∷ t) ++ ks → cond end ([] ∷ js) (in_front b js) ≡ cond end ([] ∷ lines_of (d ∷ t)) (in_front b (lines_of (d ∷ t))) ++ ks
 more_join true b d t js ks h = ap (λ js. [] ∷ js) h
-more_join false b d t js ks h = ap (in_front b) h ∙ front_join b (lines_of (d ∷ t)) ks _ _ (lines_cut (d ∷ t) (omega arith))
+more_join false b d t js ks h = ap (in_front b) h ∙ front_join b (lines_of (d ∷ t)) ks (some_lines d t)
 
 lines_join : (t u : List ℕ) → (ks : List (List ℕ)) × (lines_of (t ++ (10 ∷ u)) ≡ lines_of t ++ ks)
 unfolding lines_of

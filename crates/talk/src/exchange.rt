@@ -7,7 +7,7 @@ ghost use Rattle.talk.specs.Exchanged.{acted, playing, answer, drained, any_answ
 ghost use Rattle.talk.specs.TalkLaws.{Laws};
 
 use crate::fault::Fault;
-use crate::parse::{cut, step_of};
+use crate::parse::step_of;
 use crate::step::Step;
 use mouse::mouse::Mouse;
 use ps2::device::Device;
@@ -53,8 +53,7 @@ fn play(mouse: &mut Option<Mouse>, step: Step) -> Result<(), Fault>
 fn write_entry(text: &mut String, entry: Entry) -> Result<(), AllocError>
     ensures { OnOk result (string_bytes text.new ≡ string_bytes text.old ++ (32 ∷ hex (shows entry))) }
 {
-    let byte = Hex(entry.shown());
-    write!(text, " {byte}")
+    write!(text, " {}", Hex(entry.shown()))
 }
 
 // All that waits in the mouse, written.
@@ -119,17 +118,11 @@ fn write_lines(text: &mut String, input: &str) -> Result<(), AllocError>
     ensures { OnOk result (string_bytes text.new ≡ string_bytes text.old ++ exchanged input.now) }
 {
     let mut mouse = None;
-    let mut number = 0;
-    let mut rest = input;
-    while !rest.is_empty() {
-        let (line, after) = cut(rest, '\n');
-        number += 1;
-        let step = match take_line(&mut mouse, line) {
-            Ok(step) => step,
-            Err(fault) => return write_fault(text, number, fault),
-        };
-        write_step(text, &mut mouse, line, step)?;
-        rest = after;
+    for (index, line) in input.split_terminator('\n').enumerate() {
+        match take_line(&mut mouse, line) {
+            Ok(step) => write_step(text, &mut mouse, line, step)?,
+            Err(fault) => return write_fault(text, index + 1, fault),
+        }
     }
     Ok(())
 }

@@ -1,5 +1,5 @@
 // What a line asks for.
-ghost use Rattle.std.specs.Prelude.{◌≡◌, ◌<◌};
+ghost use Rattle.std.specs.Prelude.{◌≡◌};
 ghost use Rattle.talk.specs.Texts.{before, behind};
 ghost use Rattle.talk.specs.Numbers.{byte_of};
 ghost use Rattle.talk.specs.Steps.{ranged, move_of, host_of, action_of, is_note, step_of};
@@ -10,13 +10,12 @@ use crate::step::Step;
 use mouse::settings::Variant;
 use ps2::event::Movement;
 
-// A text up to the first such character, and what follows it.
-pub(crate) fn cut(text: &str, at: char) -> (&str, &str)
-    requires { at < 128 }
-    ensures front { result.0.now ≡ before at text.now }
-    ensures back { result.1.now ≡ behind at text.now }
+// A text up to its first space, and what follows that.
+fn cut(text: &str) -> (&str, &str)
+    ensures front { result.0.now ≡ before 32 text.now }
+    ensures back { result.1.now ≡ behind 32 text.now }
 {
-    text.split_once(at).unwrap_or((text, ""))
+    text.split_once(' ').unwrap_or((text, ""))
 }
 
 fn ranged_step(movement: Movement) -> Result<Step, Fault>
@@ -32,9 +31,9 @@ fn ranged_step(movement: Movement) -> Result<Step, Fault>
 fn move_step(text: &str) -> Result<Step, Fault>
     ensures { result ≡ move_of text.now }
 {
-    let (dx, rest) = cut(text, ' ');
-    let (dy, rest) = cut(rest, ' ');
-    let (wheel, buttons) = cut(rest, ' ');
+    let (dx, rest) = cut(text);
+    let (dy, rest) = cut(rest);
+    let (wheel, buttons) = cut(rest);
     let (Some(dx), Some(dy), Some(wheel), Some(buttons)) = (
         number(dx.as_bytes()),
         number(dy.as_bytes()),
@@ -88,7 +87,7 @@ pub(crate) fn step_of(line: &str) -> Result<Step, Fault>
         "plain" => Ok(Step::Power(Variant::Plain)),
         "wheel" => Ok(Step::Power(Variant::Wheel)),
         _ => {
-            let (word, rest) = cut(line, ' ');
+            let (word, rest) = cut(line);
             action(word, rest)
         }
     }

@@ -1,5 +1,5 @@
 // A step of a talk: a note, or something that is done to the mouse.
-ghost use Rattle.std.specs.Prelude.{Some};
+ghost use Rattle.std.specs.Prelude.{◌≡◌, Some};
 ghost use Rattle.talk.specs.StepWords.{variant_words, step_words};
 
 use mouse::settings::Variant;
@@ -16,17 +16,12 @@ pub(crate) enum Step {
 }
 
 // A model by its name.
-#[derive(Clone, Copy)]
-struct Model(Variant);
-
-impl fmt::Display for Model {
-    ghost output = { λ m. Some (variant_words m.0) };
-
-    fn fmt<W: fmt::Write>(&self, f: &mut fmt::Formatter<W>) -> fmt::Result {
-        match self.0 {
-            Variant::Plain => write!(f, "plain"),
-            Variant::Wheel => write!(f, "wheel"),
-        }
+fn name(variant: Variant) -> &'static str
+    ensures { result.now ≡ variant_words variant }
+{
+    match variant {
+        Variant::Plain => "plain",
+        Variant::Wheel => "wheel",
     }
 }
 
@@ -36,14 +31,8 @@ impl fmt::Display for Step {
     fn fmt<W: fmt::Write>(&self, f: &mut fmt::Formatter<W>) -> fmt::Result {
         match *self {
             Step::Note => Ok(()),
-            Step::Power(variant) => {
-                let model = Model(variant);
-                write!(f, "{model}")
-            }
-            Step::Host(byte) => {
-                let byte = Hex(byte);
-                write!(f, "host {byte}")
-            }
+            Step::Power(variant) => f.write_str(name(variant)),
+            Step::Host(byte) => write!(f, "host {}", Hex(byte)),
             Step::Move(m) => write!(f, "move {} {} {} {}", m.dx, m.dy, m.wheel, m.buttons),
         }
     }
