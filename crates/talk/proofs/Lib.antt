@@ -1,6 +1,5 @@
 pub mod Cuts
 pub mod Lines
-pub mod Words
 pub mod Draining
 pub mod Playing
 pub mod Laws

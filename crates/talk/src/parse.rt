@@ -60,35 +60,34 @@ fn host_step(text: &str) -> Result<Step, Fault>
     byte(text.as_bytes()).map(Step::Host).ok_or(Fault::BadByte)
 }
 
-fn action(word: &str, text: &str) -> Result<Step, Fault>
-    ensures { result ≡ action_of word.now text.now }
+// An action that has something behind it.
+fn action(line: &str) -> Result<Step, Fault>
+    ensures { result ≡ action_of (before 32 line.now) (behind 32 line.now) }
 {
+    let (word, rest) = cut(line);
     match word {
-        "host" => host_step(text),
-        "move" => move_step(text),
+        "host" => host_step(rest),
+        "move" => move_step(rest),
         _ => Err(Fault::UnknownWord),
     }
 }
 
-fn is_note(line: &[u8]) -> bool
+fn is_note(line: &str) -> bool
     ensures { result ≡ is_note line.now }
 {
-    matches!(line, [] | [b'#', ..])
+    matches!(line.as_bytes(), [] | [b'#', ..])
 }
 
 // What a line asks for.
 pub(crate) fn step_of(line: &str) -> Result<Step, Fault>
     ensures { result ≡ step_of line.now }
 {
-    if is_note(line.as_bytes()) {
+    if is_note(line) {
         return Ok(Step::Note);
     }
     match line {
         "plain" => Ok(Step::Power(Variant::Plain)),
         "wheel" => Ok(Step::Power(Variant::Wheel)),
-        _ => {
-            let (word, rest) = cut(line);
-            action(word, rest)
-        }
+        _ => action(line),
     }
 }
