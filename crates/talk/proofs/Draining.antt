@@ -12,12 +12,12 @@ abbrev waiting : Mouse → List Entry
 waiting m = mouse_kind.waiting m
 
 some_first : (es : List Entry) (e : Entry) → Some e ≡ first es → es ≡ e ∷ rest es
-some_first [] e h = let z : ◌≡◌ {A = ℕ} 0 1 = cc in absurd (omega arith)
-some_first (x ∷ es) e h = let same : x ≡ e = cc in ap (λ x. x ∷ es) same
+some_first [] e h = cc
+some_first (x ∷ es) e h = cc
 
 none_first : (es : List Entry) → None ≡ first es → es ≡ []
 none_first [] h = refl
-none_first (x ∷ es) h = let z : ◌≡◌ {A = ℕ} 0 1 = cc in absurd (omega arith)
+none_first (x ∷ es) h = cc
 
 spaced_one : (e : Entry) (es : List Entry) → spaced (map shows (e ∷ es)) ≡ (32 ∷ hex (shows e)) ++ spaced (map shows es)
 unfolding spaced

@@ -23,22 +23,20 @@ drained_quiet None = tt
 drained_quiet (Some m) = settled_by (mouse_kind.waiting m) m refl
 
 -- a note leaves the mouse as it is
-same_step : (s t : Step) (p q : Option Mouse) → ◌≡◌ {A = Result (Step × Option Mouse) Fault} (Ok (s, p)) (Ok (t, q)) → (s ≡ t) × (p ≡ q)
-same_step s t p q e = let f : ◌≡◌ {A = Step × Option Mouse} (s, p) (t, q) = cc in (ap (λ x. x.0) f, ap (λ x. x.1) f)
+playing_note : (m : Option Mouse) → playing Note m ≡ Ok m
+playing_note None = refl
+playing_note (Some m) = refl
 
-note_keeps : (t : Step) (m p : Option Mouse) → beside t (playing t m) ≡ Ok (Note, p) → m ≡ p
-note_keeps Note None p e = (same_step _ _ _ _ e).1
-note_keeps Note (Some m) p e = (same_step _ _ _ _ e).1
-note_keeps (Power v) None p e = let f = (same_step _ _ _ _ e).0 in let z : ◌≡◌ {A = ℕ} 0 1 = cc in absurd (omega arith)
-note_keeps (Power v) (Some m) p e = let f = (same_step _ _ _ _ e).0 in let z : ◌≡◌ {A = ℕ} 0 1 = cc in absurd (omega arith)
-note_keeps (Host b) None p e = let z : ◌≡◌ {A = ℕ} 0 1 = cc in absurd (omega arith)
-note_keeps (Host b) (Some m) p e = let f = (same_step _ _ _ _ e).0 in let z : ◌≡◌ {A = ℕ} 0 1 = cc in absurd (omega arith)
-note_keeps (Move d) None p e = let z : ◌≡◌ {A = ℕ} 0 1 = cc in absurd (omega arith)
-note_keeps (Move d) (Some m) p e = let f = (same_step _ _ _ _ e).0 in let z : ◌≡◌ {A = ℕ} 0 1 = cc in absurd (omega arith)
+noted : (t : Step) (r : Result (Option Mouse) Fault) (p : Option Mouse) → beside t r ≡ Ok (Note, p) → (t ≡ Note) × (r ≡ Ok p)
+noted t (Ok q) p e = let same : ◌≡◌ {A = Step × Option Mouse} (t, q) (Note, p) = cc in (ap (λ x. x.0) same, ap (λ x. Ok x.1) same)
+noted t (Err f) p e = cc
 
 quiet_by : (r : Result Step Fault) (m : Option Mouse) (s : Step) (p : Option Mouse) → Quiet m → taken r m ≡ Ok (s, p) → Quiet (left_by s p)
-quiet_by (Ok t) m Note p h e = subst Quiet (note_keeps t m p e) h
-quiet_by (Err f) m Note p h e = let z : ◌≡◌ {A = ℕ} 0 1 = cc in absurd (omega arith)
+quiet_by (Ok t) m Note p h e =
+    let note = noted t (playing t m) p e in
+    let same = sym (playing_note m) ∙ ap (λ s. playing s m) (sym note.0) ∙ note.1 in
+    subst Quiet (cc) h
+quiet_by (Err f) m Note p h e = cc
 quiet_by r m (Power v) p h e = drained_quiet p
 quiet_by r m (Host b) p h e = drained_quiet p
 quiet_by r m (Move d) p h e = drained_quiet p

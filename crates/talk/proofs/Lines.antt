@@ -21,7 +21,7 @@ lines_more (b ∷ t) u h = rw (lacks_head 10 b t h) (ap (in_front b) (lines_more
 -- a line that was cut off is the first
 module _ (x rest : List ℕ) (more : Bool) (ended : length x ≡ 0 → more ≡ true) where
   first_line : (t : List ℕ) (o : Option (ℕ × ℕ)) → FindsChar 10 t o → MatchOption o ((x ≡ t) × (more ≡ false)) (λ q. 0 < q.1 → (x ≡ take q.0 t) × (more ≡ true) × (rest ≡ drop q.1 t)) → lines_of t ≡ x ∷ cond more (lines_of rest) []
-  first_line [] None f h = let e = ended (ap length h.0) in let z : ◌≡◌ {A = Bool} true false = cc in cc
+  first_line [] None f h = let e = ended (ap length h.0) in cc
   first_line (b ∷ t) None f h = lines_last b t (λ i lt. NoCharPasses-char 10 (b ∷ t) i f (lit< tt) lt) ∙ (λ k. sym h.0 k ∷ cond (sym h.1 k) (lines_of rest) [])
   first_line t (Some q) f h =
       let at : HasCharAt 10 t q.0 q.1 = f.1 in
