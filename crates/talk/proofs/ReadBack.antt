@@ -1,7 +1,8 @@
 -- Printed steps are read as these steps.
 use Rattle.std.proofs.Common.{◌≡◌, ℕ, zero, suc, ◌+◌, ◌*◌, ◌/◌, ◌%◌, ◌<◌, ◌≤◌, true, false, List, [], ◌∷◌, ◌++◌, length, get_or, ℤ, pos, negsuc, nat_abs, Some, Ok, codes, decimal, refl, ap, ◌∙◌, arith, length-append, ne_eqb, leb-true}
 use Rattle.std.specs.Fmt.{signed_decimal}
-use Rattle.std.proofs.lemmas.Fmt.{decimal_by_steps}
+use Rattle.std.proofs.lemmas.Fmt.{decimal_by_steps, decimal_nonempty, decimal_is_IsNumeral}
+use Rattle.std.proofs.lemmas.Str.Parse.{digit_at}
 use Rattle.std.proofs.lemmas.List.Sums.{fold_push}
 use Rattle.std.proofs.lemmas.Bool.{and_parts}
 use Rattle.std.proofs.lemmas.Bool.Decides.{nat_tests}
@@ -22,59 +23,31 @@ use Rattle.talk.proofs.Cuts.{Lacks, before_at, behind_at}
 one_digit : (n d : ℕ) → n < 100 → d < 10 → one_more (Some n) (48 + d) ≡ Some (10 * n + d)
 one_digit n d h k = grind (arith, nat_tests)
 
-abbrev Digit : ℕ → Type 0
-Digit c = (48 ≤ c) × (c ≤ 57)
+-- the digits of a number, read back
+abbrev Read : ℕ → List ℕ → Type 0
+Read n ds = n < 1000 → digits_of ds ≡ Some n
 
-digit_one : (c : ℕ) → Digit c → (i : ℕ) → i < 1 → Digit (get_or (c ∷ []) i 0)
-digit_one c h zero lt = h
-digit_one c h (suc i) lt = absurd (omega arith)
+read_one : (n : ℕ) → n < 10 → Read n ((48 + n) ∷ [])
+read_one n h lt = one_digit 0 n (omega arith) h ∙ ap Some (omega arith)
 
-digit_more : (ds : List ℕ) (c : ℕ) → Digit c → ((i : ℕ) → i < length ds → Digit (get_or ds i 0)) → (i : ℕ) → i < length (ds ++ (c ∷ [])) → Digit (get_or (ds ++ (c ∷ [])) i 0)
-digit_more [] c h all i lt = digit_one c h i lt
-digit_more (d ∷ ds) c h all zero lt = all 0 (omega arith)
-digit_more (d ∷ ds) c h all (suc i) lt = digit_more ds c h (λ i lt. all (suc i) (omega arith)) i (omega arith)
-
--- what the digits of a number are
-record Spelt (n : ℕ) (ds : List ℕ) : Type 0 where
-  value : n < 1000 → digits_of ds ≡ Some n
-  some : 0 < length ds
-  digit : (i : ℕ) → i < length ds → Digit (get_or ds i 0)
-
-spelt_one : (n : ℕ) → n < 10 → Spelt n ((48 + n) ∷ [])
-spelt_one n h = record {
-  value = λ _. one_digit 0 n (omega arith) h ∙ ap Some (omega arith);
-  some = omega arith;
-  digit = λ i lt. digit_one (48 + n) (omega arith, omega arith) i (omega arith);
-}
-
-spelt_more : (n : ℕ) (ds : List ℕ) → 10 ≤ n → Spelt (n / 10) ds → Spelt n (ds ++ ((48 + n % 10) ∷ []))
-spelt_more n ds h s = record {
-  value = λ lt. fold_push one_more (Some 0) ds (48 + n % 10) ∙ ap (λ o. one_more o (48 + n % 10)) (s.value (omega arith)) ∙ one_digit (n / 10) (n % 10) (omega arith) (omega arith) ∙ ap Some (omega arith);
-  some = simp length-append (omega arith);
-  digit = λ i lt. digit_more ds (48 + n % 10) (omega arith, omega arith) s.digit i lt;
-}
-
-spelt : (n : ℕ) → n < 1000 → Spelt n (decimal n)
-spelt n h = decimal_by_steps Spelt spelt_one spelt_more n (omega arith)
-
--- numbers, read back
-lacks_space : (ds : List ℕ) → ((i : ℕ) → i < length ds → Digit (get_or ds i 0)) → Lacks 32 ds
-lacks_space ds all i lt e = let h = all i lt in omega (arith, h.0)
+read_more : (n : ℕ) (ds : List ℕ) → 10 ≤ n → Read (n / 10) ds → Read n (ds ++ ((48 + n % 10) ∷ []))
+read_more n ds h front lt = fold_push one_more (Some 0) ds (48 + n % 10) ∙ ap (λ o. one_more o (48 + n % 10)) (front (omega arith)) ∙ one_digit (n / 10) (n % 10) (omega arith) (omega arith) ∙ ap Some (omega arith)
 
 count_back : (n : ℕ) → n < 1000 → count_of (decimal n) ≡ Some n
-count_back n h = let s = spelt n h in rw (ne_eqb (length (decimal n)) 0 (λ e. omega (arith, s.some))) (s.value h)
+count_back n h = rw (ne_eqb (length (decimal n)) 0 (λ e. omega (arith, decimal_nonempty n (omega arith)))) (decimal_by_steps Read read_one read_more n (omega arith) h)
+
+-- neither a space nor a minus sign is among the digits
+decimal_lacks : (c n : ℕ) → c < 48 → n < 1000 → Lacks c (decimal n)
+decimal_lacks c n low h i lt e = omega (arith, (digit_at (decimal n) i (decimal_is_IsNumeral n (omega arith)).0.1 lt).0)
 
 number_back : (z : ℤ) → nat_abs z < 1000 → number_of (signed_decimal z) ≡ Some z
-number_back (pos n) h =
-    let s = spelt n (omega arith) in
-    let d = s.digit 0 s.some in
-    rw (ne_eqb (get_or (decimal n) 0 0) 45 (λ e. omega (arith, d.0))) (ap (signed_of false) (count_back n (omega arith)))
+number_back (pos n) h = rw (ne_eqb (get_or (decimal n) 0 0) 45 (decimal_lacks 45 n (omega arith) (omega arith) 0 (decimal_nonempty n (omega arith)))) (ap (signed_of false) (count_back n (omega arith)))
 number_back (negsuc n) h = ap (signed_of true) (count_back (suc n) (omega arith))
 
 signed_lacks : (z : ℤ) → nat_abs z < 1000 → Lacks 32 (signed_decimal z)
-signed_lacks (pos n) h i lt e = lacks_space (decimal n) (spelt n (omega arith)).digit i lt e
+signed_lacks (pos n) h i lt e = decimal_lacks 32 n (omega arith) (omega arith) i lt e
 signed_lacks (negsuc n) h zero lt e = absurd (omega arith)
-signed_lacks (negsuc n) h (suc i) lt e = lacks_space (decimal (suc n)) (spelt (suc n) (omega arith)).digit i (omega arith) e
+signed_lacks (negsuc n) h (suc i) lt e = decimal_lacks 32 (suc n) (omega arith) (omega arith) i (omega arith) e
 
 nibble_back : (d : ℕ) → d < 16 → nibble_of (hex_digit d) ≡ Some d
 nibble_back d h = grind (arith, nat_tests)
@@ -92,18 +65,10 @@ module _ (d : Movement) (xs : nat_abs d.dx < 1000) (ys : nat_abs d.dy < 1000) (w
 
   move_back : move_of (signed_decimal d.dx ++ (32 ∷ three)) ≡ ranged d
   move_back =
-      let t = signed_decimal d.dx ++ (32 ∷ three) in
-      let fx : before 32 t ≡ signed_decimal d.dx = before_at 32 (signed_decimal d.dx) three (signed_lacks d.dx xs) in
-      let tx : behind 32 t ≡ three = behind_at 32 (signed_decimal d.dx) three (signed_lacks d.dx xs) in
-      let fy : before 32 three ≡ signed_decimal d.dy = before_at 32 (signed_decimal d.dy) two (signed_lacks d.dy ys) in
-      let ty : behind 32 three ≡ two = behind_at 32 (signed_decimal d.dy) two (signed_lacks d.dy ys) in
-      let fw : before 32 two ≡ signed_decimal d.wheel = before_at 32 (signed_decimal d.wheel) (decimal d.buttons) (signed_lacks d.wheel ws) in
-      let tw : behind 32 two ≡ decimal d.buttons = behind_at 32 (signed_decimal d.wheel) (decimal d.buttons) (signed_lacks d.wheel ws) in
-      let nx = ap number_of fx ∙ number_back d.dx xs in
-      let ny = ap (λ u. number_of (before 32 u)) tx ∙ ap number_of fy ∙ number_back d.dy ys in
-      let nw = ap (λ u. number_of (before 32 (behind 32 u))) tx ∙ ap (λ u. number_of (before 32 u)) ty ∙ ap number_of fw ∙ number_back d.wheel ws in
-      let nb = ap (λ u. count_of (behind 32 (behind 32 u))) tx ∙ ap (λ u. count_of (behind 32 u)) ty ∙ ap count_of tw ∙ count_back d.buttons bs in
-      λ k. movement_of (nx k) (ny k) (nw k) (nb k)
+      let lx = signed_lacks d.dx xs in
+      let ly = signed_lacks d.dy ys in
+      let lw = signed_lacks d.wheel ws in
+      rw (before_at 32 (signed_decimal d.dx) three lx, behind_at 32 (signed_decimal d.dx) three lx, before_at 32 (signed_decimal d.dy) two ly, behind_at 32 (signed_decimal d.dy) two ly, before_at 32 (signed_decimal d.wheel) (decimal d.buttons) lw, behind_at 32 (signed_decimal d.wheel) (decimal d.buttons) lw, number_back d.dx xs, number_back d.dy ys, number_back d.wheel ws, count_back d.buttons bs) refl
 
 -- a word, a space and what stands behind them
 host_word : (t : List ℕ) → step_of (codes "host " ++ t) ≡ host_of (byte_of t)
