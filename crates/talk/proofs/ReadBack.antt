@@ -55,20 +55,24 @@ nibble_back d h = grind (arith, nat_tests)
 byte_back : (b : ℕ) → b < 256 → byte_of (hex b) ≡ Some b
 byte_back b h = (λ k. paired (nibble_back (b / 16) (omega arith) k) (nibble_back (b % 16) (omega arith) k)) ∙ ap Some (omega arith)
 
--- four numbers, read back
-module _ (d : Movement) (xs : nat_abs d.dx < 1000) (ys : nat_abs d.dy < 1000) (ws : nat_abs d.wheel < 1000) (bs : d.buttons < 1000) where
+-- four numbers in range, read back
+small : (d : Movement) → Shown (Move d) → (nat_abs d.dx < 1000) × (nat_abs d.dy < 1000) × (nat_abs d.wheel < 1000) × (d.buttons < 1000)
+small d h = (grind (arith, ints), grind (arith, ints), grind (arith, ints), grind (arith, nat_tests))
+
+module _ (d : Movement) (h : Shown (Move d)) where
   abbrev two : List ℕ
   two = signed_decimal d.wheel ++ (32 ∷ decimal d.buttons)
 
   abbrev three : List ℕ
   three = signed_decimal d.dy ++ (32 ∷ two)
 
-  move_back : move_of (signed_decimal d.dx ++ (32 ∷ three)) ≡ ranged d
+  move_back : move_of (signed_decimal d.dx ++ (32 ∷ three)) ≡ Ok (Move d)
   move_back =
-      let lx = signed_lacks d.dx xs in
-      let ly = signed_lacks d.dy ys in
-      let lw = signed_lacks d.wheel ws in
-      rw (before_at 32 (signed_decimal d.dx) three lx, behind_at 32 (signed_decimal d.dx) three lx, before_at 32 (signed_decimal d.dy) two ly, behind_at 32 (signed_decimal d.dy) two ly, before_at 32 (signed_decimal d.wheel) (decimal d.buttons) lw, behind_at 32 (signed_decimal d.wheel) (decimal d.buttons) lw, number_back d.dx xs, number_back d.dy ys, number_back d.wheel ws, count_back d.buttons bs) refl
+      let s = small d h in
+      let x = signed_lacks d.dx s.0 in
+      let y = signed_lacks d.dy s.1 in
+      let w = signed_lacks d.wheel s.2 in
+      rw (before_at 32 (signed_decimal d.dx) three x, behind_at 32 (signed_decimal d.dx) three x, before_at 32 (signed_decimal d.dy) two y, behind_at 32 (signed_decimal d.dy) two y, before_at 32 (signed_decimal d.wheel) (decimal d.buttons) w, behind_at 32 (signed_decimal d.wheel) (decimal d.buttons) w, number_back d.dx s.0, number_back d.dy s.1, number_back d.wheel s.2, count_back d.buttons s.3, h) refl
 
 -- a word, a space and what stands behind them
 host_word : (t : List ℕ) → step_of (codes "host " ++ t) ≡ host_of (byte_of t)
@@ -79,20 +83,9 @@ move_word : (t : List ℕ) → step_of (codes "move " ++ t) ≡ move_of t
 unfolding before behind
 move_word t = rw (ne_eqb (length (codes "move " ++ t)) 0 (λ e. omega arith)) refl
 
-axis_small : (z : ℤ) → axis_in_range z ≡ true → nat_abs z < 1000
-axis_small z h = grind (arith, ints)
-
-wheel_small : (z : ℤ) → wheel_in_range z ≡ true → nat_abs z < 1000
-wheel_small z h = grind (arith, ints)
-
 pub read_back : (s : Step) → Shown s → step_of (step_words s) ≡ Ok s
 read_back Note h = absurd h
 read_back (Power Plain) h = refl
 read_back (Power Wheel) h = refl
 read_back (Host b) h = host_word (hex b) ∙ ap host_of (byte_back b h)
-read_back (Move d) h =
-    let p = and_parts (axis_in_range d.dx) _ h in
-    let q = and_parts (axis_in_range d.dy) _ p.1 in
-    let r = and_parts (wheel_in_range d.wheel) _ q.1 in
-    let few : d.buttons < 1000 = omega (arith, leb-true d.buttons 31 r.1) in
-    move_word (signed_decimal d.dx ++ (32 ∷ (signed_decimal d.dy ++ (32 ∷ (signed_decimal d.wheel ++ (32 ∷ decimal d.buttons)))))) ∙ move_back d (axis_small d.dx p.0) (axis_small d.dy q.0) (wheel_small d.wheel r.0) few ∙ rw h refl
+read_back (Move d) h = move_word _ ∙ move_back d h
