@@ -1,19 +1,17 @@
 -- Printed steps are read as these steps.
-use Rattle.std.proofs.Common.{◌≡◌, ℕ, zero, suc, ◌+◌, ◌*◌, ◌/◌, ◌%◌, ◌<◌, ◌≤◌, true, false, List, [], ◌∷◌, ◌++◌, length, get_or, ℤ, pos, negsuc, nat_abs, Some, Ok, codes, decimal, refl, ap, ◌∙◌, arith, length-append, ne_eqb, leb-true}
+use Rattle.std.proofs.Common.{◌≡◌, ℕ, zero, suc, ◌+◌, ◌*◌, ◌/◌, ◌%◌, ◌<◌, ◌≤◌, true, false, List, [], ◌∷◌, ◌++◌, length, get_or, ℤ, pos, negsuc, nat_abs, Some, Ok, codes, decimal, refl, ap, ◌∙◌, arith, ne_eqb}
 use Rattle.std.specs.Fmt.{signed_decimal}
 use Rattle.std.proofs.lemmas.Fmt.{decimal_by_steps, decimal_nonempty, decimal_is_IsNumeral}
 use Rattle.std.proofs.lemmas.Str.Parse.{digit_at}
 use Rattle.std.proofs.lemmas.List.Sums.{fold_push}
-use Rattle.std.proofs.lemmas.Bool.{and_parts}
 use Rattle.std.proofs.lemmas.Bool.Decides.{nat_tests}
 use Rattle.std.proofs.lemmas.Int.{ints}
 use Rattle.ps2.specs.declared.event.Movement.{Movement}
-use Rattle.ps2.specs.Events.{axis_in_range, wheel_in_range}
 use Rattle.mouse.specs.declared.settings.Variant.TheVariants.{Plain, Wheel}
 use Rattle.talk.specs.declared.step.Step.{Step}
 use Rattle.talk.specs.declared.step.Step.TheVariants.{Note, Power, Host, Move}
 use Rattle.talk.specs.Texts.{before, behind}
-use Rattle.talk.specs.Steps.{ranged, movement_of, move_of, host_of, step_of}
+use Rattle.talk.specs.Steps.{move_of, host_of, step_of}
 use Rattle.talk.specs.StepWords.{step_words}
 use Rattle.talk.specs.TalkLaws.{Shown}
 use Rattle.talk.specs.Numbers.{nibble_of, paired, byte_of, one_more, digits_of, count_of, signed_of, number_of}
