@@ -1,5 +1,5 @@
 -- The laws of a talk, proved.
-use Rattle.std.proofs.Common.{◌≡◌, ℕ, ◌+◌, Bool, true, false, cond, eqb, List, [], ◌∷◌, ◌++◌, length, Some, None, Ok, Err, Option, Result, sym, refl, ap, ◌∙◌, subst, append_assoc, append-nil, arith}
+use Rattle.std.proofs.Common.{◌≡◌, ℕ, ◌+◌, ◌<◌, Bool, true, false, cond, eqb, List, [], ◌∷◌, ◌++◌, length, Some, None, Ok, Err, Option, Result, sym, refl, ap, ◌∙◌, subst, append_assoc, append-nil, arith}
 use Rattle.ps2.specs.declared.entry.Entry.{Entry}
 use Rattle.ps2.specs.Kinds.{rest}
 use Rattle.mouse.specs.declared.mouse.Mouse.{Mouse}
@@ -11,7 +11,6 @@ use Rattle.talk.specs.Texts.{in_front, lines_of}
 use Rattle.talk.specs.Steps.{step_of}
 use Rattle.talk.specs.Exchanged.{playing, given_all, any_drained, step_line, left_by, beside, taken, turn, played, exchanged}
 use Rattle.talk.specs.TalkLaws.{Quiet}
-use Rattle.talk.proofs.Cuts.{lines_cut}
 
 -- a mouse that gave all that waited has nothing waiting
 settled_by : (es : List Entry) (m : Mouse) → mouse_kind.waiting m ≡ es → mouse_kind.waiting (given_all es m) ≡ []
@@ -24,33 +23,40 @@ drained_quiet None = tt
 drained_quiet (Some m) = settled_by (mouse_kind.waiting m) m refl
 
 -- a note leaves the mouse as it is
-same_step : (s t : Step) (p q : Option Mouse) → ◌≡◌ {A = Result (Step × Option Mouse) Fault} (Ok (s, p)) (Ok (t, q)) → (s ≡ t) × (p ≡ q)
-same_step s t p q e = let f : ◌≡◌ {A = Step × Option Mouse} (s, p) (t, q) = cc in (ap (λ x. x.0) f, ap (λ x. x.1) f)
+playing_note : (m : Option Mouse) → playing Note m ≡ Ok m
+playing_note None = refl
+playing_note (Some m) = refl
 
-note_keeps : (t : Step) (m p : Option Mouse) → beside t (playing t m) ≡ Ok (Note, p) → m ≡ p
-note_keeps Note None p e = (same_step _ _ _ _ e).1
-note_keeps Note (Some m) p e = (same_step _ _ _ _ e).1
-note_keeps (Power v) None p e = let f = (same_step _ _ _ _ e).0 in let z : ◌≡◌ {A = ℕ} 0 1 = cc in absurd (omega arith)
-note_keeps (Power v) (Some m) p e = let f = (same_step _ _ _ _ e).0 in let z : ◌≡◌ {A = ℕ} 0 1 = cc in absurd (omega arith)
-note_keeps (Host b) None p e = let z : ◌≡◌ {A = ℕ} 0 1 = cc in absurd (omega arith)
-note_keeps (Host b) (Some m) p e = let f = (same_step _ _ _ _ e).0 in let z : ◌≡◌ {A = ℕ} 0 1 = cc in absurd (omega arith)
-note_keeps (Move x y w b) None p e = let z : ◌≡◌ {A = ℕ} 0 1 = cc in absurd (omega arith)
-note_keeps (Move x y w b) (Some m) p e = let f = (same_step _ _ _ _ e).0 in let z : ◌≡◌ {A = ℕ} 0 1 = cc in absurd (omega arith)
+noted : (t : Step) (r : Result (Option Mouse) Fault) (p : Option Mouse) → beside t r ≡ Ok (Note, p) → (t ≡ Note) × (r ≡ Ok p)
+noted t (Ok q) p e = let same : ◌≡◌ {A = Step × Option Mouse} (t, q) (Note, p) = cc in (ap (λ x. x.0) same, ap (λ x. Ok x.1) same)
+noted t (Err f) p e = cc
 
 quiet_by : (r : Result Step Fault) (m : Option Mouse) (s : Step) (p : Option Mouse) → Quiet m → taken r m ≡ Ok (s, p) → Quiet (left_by s p)
-quiet_by (Ok t) m Note p h e = subst Quiet (note_keeps t m p e) h
-quiet_by (Err f) m Note p h e = let z : ◌≡◌ {A = ℕ} 0 1 = cc in absurd (omega arith)
+quiet_by (Ok t) m Note p h e =
+    let note = noted t (playing t m) p e in
+    let same = sym (playing_note m) ∙ ap (λ s. playing s m) (sym note.0) ∙ note.1 in
+    subst Quiet (cc) h
+quiet_by (Err f) m Note p h e = cc
 quiet_by r m (Power v) p h e = drained_quiet p
 quiet_by r m (Host b) p h e = drained_quiet p
-quiet_by r m (Move x y w b) p h e = drained_quiet p
+quiet_by r m (Move d) p h e = drained_quiet p
 
 pub settled : (l : List ℕ) (m : Option Mouse) (s : Step) (p : Option Mouse) → Quiet m → taken (step_of l) m ≡ Ok (s, p) → Quiet (left_by s p)
 settled l m s p h e = quiet_by (step_of l) m s p h e
 
+some_by : (end : Bool) (b : ℕ) (ls : List (List ℕ)) → 0 < length (cond end ([] ∷ ls) (in_front b ls))
+some_by true b ls = omega arith
+some_by false b [] = omega arith
+some_by false b (l ∷ ls) = omega arith
+
+some_lines : (b : ℕ) (t : List ℕ) → 0 < length (lines_of (b ∷ t))
+unfolding lines_of
+some_lines b t = some_by (eqb b 10) b (lines_of t)
+
 -- the lines of a text are lines of any text that goes on behind a newline
-front_join : (b : ℕ) (ls ks : List (List ℕ)) (x : List ℕ) (xs : List (List ℕ)) → ls ≡ x ∷ xs → in_front b (ls ++ ks) ≡ in_front b ls ++ ks
-front_join b [] ks x xs h = let z : ◌≡◌ {A = ℕ} 0 1 = omega (arith, ap length h) in absurd (omega arith)
-front_join b (l ∷ ls) ks x xs h = refl
+front_join : (b : ℕ) (ls ks : List (List ℕ)) → 0 < length ls → in_front b (ls ++ ks) ≡ in_front b ls ++ ks
+front_join b [] ks h = absurd (omega arith)
+front_join b (l ∷ ls) ks h = refl
 
 one_join : (end : Bool) (b : ℕ) (u : List ℕ) → (ks : List (List ℕ)) × (cond end ([] ∷ ([] ∷ lines_of u)) (in_front b ([] ∷ lines_of u)) ≡ cond end ([] ∷ []) (in_front b []) ++ ks)
 one_join true b u = ([] ∷ lines_of u, refl)
@@ -58,7 +64,7 @@ one_join false b u = (lines_of u, refl)
 
 more_join : (end : Bool) (b d : ℕ) (t : List ℕ) (js ks : List (List ℕ)) → js ≡ lines_of (d ∷ t) ++ ks → cond end ([] ∷ js) (in_front b js) ≡ cond end ([] ∷ lines_of (d ∷ t)) (in_front b (lines_of (d ∷ t))) ++ ks
 more_join true b d t js ks h = ap (λ js. [] ∷ js) h
-more_join false b d t js ks h = ap (in_front b) h ∙ front_join b (lines_of (d ∷ t)) ks _ _ (lines_cut (d ∷ t) (omega arith))
+more_join false b d t js ks h = ap (in_front b) h ∙ front_join b (lines_of (d ∷ t)) ks (some_lines d t)
 
 lines_join : (t u : List ℕ) → (ks : List (List ℕ)) × (lines_of (t ++ (10 ∷ u)) ≡ lines_of t ++ ks)
 unfolding lines_of

@@ -1,5 +1,5 @@
 pub mod Cuts
-pub mod Words
+pub mod Lines
 pub mod Draining
 pub mod Playing
 pub mod Laws

@@ -1,42 +1,40 @@
 -- The lines of a talk, one by one.
-use Rattle.std.proofs.Common.{◌≡◌, ℕ, ◌+◌, ◌<◌, ◌≤◌, List, [], ◌∷◌, ◌++◌, length, Ok, Err, Option, sym, refl, ap, ◌∙◌, append_assoc, append-nil, arith}
+use Rattle.std.proofs.Common.{◌≡◌, ℕ, ◌+◌, List, ◌∷◌, ◌++◌, Bor, Ok, None, Some, Option, Result, sym, ap, ◌∙◌, append_assoc, append-nil}
+use Rattle.std.specs.declared.iter.Enumerate.{Enumerate}
+use Rattle.std.specs.declared.str.SplitTerminator.{SplitTerminator}
+use Rattle.std.specs.Iterator.Adapters.{enumerate_source, enumerate_count, enumerate_steps}
+use Rattle.std.specs.Str.Iter.{split_terminator_pattern, split_terminator_steps}
+use Rattle.std.specs.Str.Pattern.{FindsChar}
 use Rattle.mouse.specs.declared.mouse.Mouse.{Mouse}
 use Rattle.talk.specs.declared.fault.Fault.{Fault}
 use Rattle.talk.specs.declared.step.Step.{Step}
-use Rattle.talk.specs.Texts.{before, behind, lines_of}
 use Rattle.talk.specs.Steps.{step_of}
-use Rattle.talk.specs.Exchanged.{step_line, left_by, fault_line, taken, turn, played}
-use Rattle.talk.proofs.Cuts.{lines_cut, lines_none, behind_less}
+use Rattle.talk.specs.Exchanged.{step_line, left_by, taken, turn, played}
+use Rattle.talk.proofs.Lines.{left, left_none, left_more}
 
-played_none : (n : ℕ) (m : Option Mouse) → played n m [] ≡ []
-unfolding played
-played_none n m = refl
-
-played_one : (n : ℕ) (m : Option Mouse) (l : List ℕ) (ls : List (List ℕ)) → played n m (l ∷ ls) ≡ turn (n + 1) l (taken (step_of l) m) (λ m. played (n + 1) m ls)
-unfolding played
-played_one n m l ls = refl
+abbrev pub cuts : Enumerate (SplitTerminator ℕ) → Option (ℕ × Bor (List ℕ)) → Enumerate (SplitTerminator ℕ) → Type 0
+cuts = enumerate_steps (split_terminator_steps FindsChar (λ a b. b ≡ a))
 
 -- what is written so far, and the text of the lines that are left, are the whole text
-pub record Sofar (goal : List ℕ) (most : ℕ) (n : ℕ) (m : Option Mouse) (left : List ℕ) (text : List ℕ) : Type 0 where
-  pub written : text ++ played n m (lines_of left) ≡ goal
-  pub few : n + length left ≤ most
+pub record Sofar (goal : List ℕ) (s : Enumerate (SplitTerminator ℕ)) (m : Option Mouse) (text : List ℕ) : Type 0 where
+  pub written : text ++ played (enumerate_count s) m (left (enumerate_source s)) ≡ goal
+  pub at_newline : split_terminator_pattern (enumerate_source s) ≡ 10
 
-module _ {goal : List ℕ} {most n : ℕ} {m : Option Mouse} {left text : List ℕ} (so : Sofar goal most n m left text) where
-  pub at_end : length left ≡ 0 → text ≡ goal
-  at_end h = sym (ap (λ ls. text ++ played n m ls) (lines_none left h) ∙ ap (λ t. text ++ t) (played_none n m) ∙ append-nil text) ∙ so.written
+module _ {goal : List ℕ} {s : Enumerate (SplitTerminator ℕ)} {m : Option Mouse} {text : List ℕ} (so : Sofar goal s m text) (t : Enumerate (SplitTerminator ℕ)) where
+  pub at_end : cuts s None t → text ≡ goal
+  unfolding played
+  at_end k = sym (ap (λ ls. text ++ played (enumerate_count s) m ls) (left_none (enumerate_source s) (enumerate_source t) so.at_newline k.0) ∙ append-nil text) ∙ so.written
 
-  module _ (some : 0 < length left) (line : List ℕ) (is : line ≡ before 10 left) where
-    next : played n m (lines_of left) ≡ turn (n + 1) line (taken (step_of line) m) (λ m. played (n + 1) m (lines_of (behind 10 left)))
-    next = ap (played n m) (lines_cut left some ∙ ap (λ l. l ∷ lines_of (behind 10 left)) (sym is)) ∙ played_one n m line _
+  module _ (n : ℕ) (line : Bor (List ℕ)) (k : cuts s (Some (n, line)) t) where
+    more_left : (split_terminator_pattern (enumerate_source t) ≡ 10) × (left (enumerate_source s) ≡ line.now ∷ left (enumerate_source t))
+    more_left = left_more (enumerate_source s) (enumerate_source t) so.at_newline line k.0
 
-    pub at_fault : (f : Fault) → taken (step_of line) m ≡ Err f → text ++ fault_line (n + 1) f ≡ goal
-    at_fault f e = ap (λ t. text ++ t) (sym (next ∙ ap (λ r. turn (n + 1) line r (λ m. played (n + 1) m (lines_of (behind 10 left)))) e)) ∙ so.written
+    pub at_line : (r : Result (Step × Option Mouse) Fault) → taken (step_of line.now) m ≡ r → text ++ turn (n + 1) line.now r (λ m. played (n + 1) m (left (enumerate_source t))) ≡ goal
+    unfolding played
+    at_line r e = (λ i. text ++ turn (n + 1) line.now (sym e i) (λ m. played (n + 1) m (left (enumerate_source t)))) ∙ (λ i. text ++ played (k.1 i) m (sym more_left.1 i)) ∙ so.written
 
-    pub at_step : (s : Step) (p q : Option Mouse) (after more : List ℕ) → taken (step_of line) m ≡ Ok (s, p) → after ≡ behind 10 left → more ≡ text ++ step_line line s p → q ≡ left_by s p → Sofar goal most (n + 1) q after more
-    at_step s p q after more e a w d = record {
-      written = (λ k. w k ++ played (n + 1) (d k) (lines_of (a k))) ∙ append_assoc text _ _ ∙ ap (λ t. text ++ t) (sym (next ∙ ap (λ r. turn (n + 1) line r (λ m. played (n + 1) m (lines_of (behind 10 left)))) e)) ∙ so.written;
-      few = omega (arith, behind_less 10 left some, ap length a, so.few);
+    pub at_step : (step : Step) (p q : Option Mouse) (more : List ℕ) → taken (step_of line.now) m ≡ Ok (step, p) → more ≡ text ++ step_line line.now step p → q ≡ left_by step p → Sofar goal t q more
+    at_step step p q more e w d = record {
+      written = (λ i. w i ++ played ((k.2 ∙ ap (λ n. n + 1) (sym k.1)) i) (d i) (left (enumerate_source t))) ∙ append_assoc text _ _ ∙ at_line _ e;
+      at_newline = more_left.0;
     }
-
-    pub shorter : (after : List ℕ) → after ≡ behind 10 left → length after < length left
-    shorter after a = omega (arith, behind_less 10 left some, ap length a)

@@ -1,17 +1,17 @@
 -- Printed steps are read as these steps.
-use Rattle.std.proofs.Common.{◌≡◌, ℕ, zero, suc, ◌+◌, ◌*◌, ◌/◌, ◌%◌, ◌<◌, ◌≤◌, true, false, List, [], ◌∷◌, ◌++◌, length, get_or, ℤ, pos, negsuc, nat_abs, Some, Ok, codes, decimal, refl, ap, ◌∙◌, arith, length-append, ne_eqb, leb-true}
+use Rattle.std.proofs.Common.{◌≡◌, ℕ, zero, suc, ◌+◌, ◌*◌, ◌/◌, ◌%◌, ◌<◌, ◌≤◌, true, false, List, [], ◌∷◌, ◌++◌, length, get_or, ℤ, pos, negsuc, nat_abs, Some, Ok, codes, decimal, refl, ap, ◌∙◌, arith, ne_eqb}
 use Rattle.std.specs.Fmt.{signed_decimal}
-use Rattle.std.proofs.lemmas.Fmt.{decimal_by_steps}
+use Rattle.std.proofs.lemmas.Fmt.{decimal_by_steps, decimal_nonempty, decimal_is_IsNumeral}
+use Rattle.std.proofs.lemmas.Str.Parse.{digit_at}
 use Rattle.std.proofs.lemmas.List.Sums.{fold_push}
-use Rattle.std.proofs.lemmas.Bool.{and_parts}
 use Rattle.std.proofs.lemmas.Bool.Decides.{nat_tests}
 use Rattle.std.proofs.lemmas.Int.{ints}
-use Rattle.ps2.specs.Events.{axis_in_range, wheel_in_range}
+use Rattle.ps2.specs.declared.event.Movement.{Movement}
 use Rattle.mouse.specs.declared.settings.Variant.TheVariants.{Plain, Wheel}
 use Rattle.talk.specs.declared.step.Step.{Step}
 use Rattle.talk.specs.declared.step.Step.TheVariants.{Note, Power, Host, Move}
 use Rattle.talk.specs.Texts.{before, behind}
-use Rattle.talk.specs.Steps.{ranged, movement_of, move_of, host_of, step_of}
+use Rattle.talk.specs.Steps.{move_of, host_of, step_of}
 use Rattle.talk.specs.StepWords.{step_words}
 use Rattle.talk.specs.TalkLaws.{Shown}
 use Rattle.talk.specs.Numbers.{nibble_of, paired, byte_of, one_more, digits_of, count_of, signed_of, number_of}
@@ -21,59 +21,31 @@ use Rattle.talk.proofs.Cuts.{Lacks, before_at, behind_at}
 one_digit : (n d : ℕ) → n < 100 → d < 10 → one_more (Some n) (48 + d) ≡ Some (10 * n + d)
 one_digit n d h k = grind (arith, nat_tests)
 
-abbrev Digit : ℕ → Type 0
-Digit c = (48 ≤ c) × (c ≤ 57)
+-- the digits of a number, read back
+abbrev Read : ℕ → List ℕ → Type 0
+Read n ds = n < 1000 → digits_of ds ≡ Some n
 
-digit_one : (c : ℕ) → Digit c → (i : ℕ) → i < 1 → Digit (get_or (c ∷ []) i 0)
-digit_one c h zero lt = h
-digit_one c h (suc i) lt = absurd (omega arith)
+read_one : (n : ℕ) → n < 10 → Read n ((48 + n) ∷ [])
+read_one n h lt = one_digit 0 n (omega arith) h ∙ ap Some (omega arith)
 
-digit_more : (ds : List ℕ) (c : ℕ) → Digit c → ((i : ℕ) → i < length ds → Digit (get_or ds i 0)) → (i : ℕ) → i < length (ds ++ (c ∷ [])) → Digit (get_or (ds ++ (c ∷ [])) i 0)
-digit_more [] c h all i lt = digit_one c h i lt
-digit_more (d ∷ ds) c h all zero lt = all 0 (omega arith)
-digit_more (d ∷ ds) c h all (suc i) lt = digit_more ds c h (λ i lt. all (suc i) (omega arith)) i (omega arith)
-
--- what the digits of a number are
-record Spelt (n : ℕ) (ds : List ℕ) : Type 0 where
-  value : n < 1000 → digits_of ds ≡ Some n
-  some : 0 < length ds
-  digit : (i : ℕ) → i < length ds → Digit (get_or ds i 0)
-
-spelt_one : (n : ℕ) → n < 10 → Spelt n ((48 + n) ∷ [])
-spelt_one n h = record {
-  value = λ _. one_digit 0 n (omega arith) h ∙ ap Some (omega arith);
-  some = omega arith;
-  digit = λ i lt. digit_one (48 + n) (omega arith, omega arith) i (omega arith);
-}
-
-spelt_more : (n : ℕ) (ds : List ℕ) → 10 ≤ n → Spelt (n / 10) ds → Spelt n (ds ++ ((48 + n % 10) ∷ []))
-spelt_more n ds h s = record {
-  value = λ lt. fold_push one_more (Some 0) ds (48 + n % 10) ∙ ap (λ o. one_more o (48 + n % 10)) (s.value (omega arith)) ∙ one_digit (n / 10) (n % 10) (omega arith) (omega arith) ∙ ap Some (omega arith);
-  some = simp length-append (omega arith);
-  digit = λ i lt. digit_more ds (48 + n % 10) (omega arith, omega arith) s.digit i lt;
-}
-
-spelt : (n : ℕ) → n < 1000 → Spelt n (decimal n)
-spelt n h = decimal_by_steps Spelt spelt_one spelt_more n (omega arith)
-
--- numbers, read back
-lacks_space : (ds : List ℕ) → ((i : ℕ) → i < length ds → Digit (get_or ds i 0)) → Lacks 32 ds
-lacks_space ds all i lt e = let h = all i lt in omega (arith, h.0)
+read_more : (n : ℕ) (ds : List ℕ) → 10 ≤ n → Read (n / 10) ds → Read n (ds ++ ((48 + n % 10) ∷ []))
+read_more n ds h front lt = fold_push one_more (Some 0) ds (48 + n % 10) ∙ ap (λ o. one_more o (48 + n % 10)) (front (omega arith)) ∙ one_digit (n / 10) (n % 10) (omega arith) (omega arith) ∙ ap Some (omega arith)
 
 count_back : (n : ℕ) → n < 1000 → count_of (decimal n) ≡ Some n
-count_back n h = let s = spelt n h in rw (ne_eqb (length (decimal n)) 0 (λ e. omega (arith, s.some))) (s.value h)
+count_back n h = rw (ne_eqb (length (decimal n)) 0 (λ e. omega (arith, decimal_nonempty n (omega arith)))) (decimal_by_steps Read read_one read_more n (omega arith) h)
+
+-- neither a space nor a minus sign is among the digits
+decimal_lacks : (c n : ℕ) → c < 48 → n < 1000 → Lacks c (decimal n)
+decimal_lacks c n low h i lt e = omega (arith, (digit_at (decimal n) i (decimal_is_IsNumeral n (omega arith)).0.1 lt).0)
 
 number_back : (z : ℤ) → nat_abs z < 1000 → number_of (signed_decimal z) ≡ Some z
-number_back (pos n) h =
-    let s = spelt n (omega arith) in
-    let d = s.digit 0 s.some in
-    rw (ne_eqb (get_or (decimal n) 0 0) 45 (λ e. omega (arith, d.0))) (ap (signed_of false) (count_back n (omega arith)))
+number_back (pos n) h = rw (ne_eqb (get_or (decimal n) 0 0) 45 (decimal_lacks 45 n (omega arith) (omega arith) 0 (decimal_nonempty n (omega arith)))) (ap (signed_of false) (count_back n (omega arith)))
 number_back (negsuc n) h = ap (signed_of true) (count_back (suc n) (omega arith))
 
 signed_lacks : (z : ℤ) → nat_abs z < 1000 → Lacks 32 (signed_decimal z)
-signed_lacks (pos n) h i lt e = lacks_space (decimal n) (spelt n (omega arith)).digit i lt e
+signed_lacks (pos n) h i lt e = decimal_lacks 32 n (omega arith) (omega arith) i lt e
 signed_lacks (negsuc n) h zero lt e = absurd (omega arith)
-signed_lacks (negsuc n) h (suc i) lt e = lacks_space (decimal (suc n)) (spelt (suc n) (omega arith)).digit i (omega arith) e
+signed_lacks (negsuc n) h (suc i) lt e = decimal_lacks 32 (suc n) (omega arith) (omega arith) i (omega arith) e
 
 nibble_back : (d : ℕ) → d < 16 → nibble_of (hex_digit d) ≡ Some d
 nibble_back d h = grind (arith, nat_tests)
@@ -81,28 +53,24 @@ nibble_back d h = grind (arith, nat_tests)
 byte_back : (b : ℕ) → b < 256 → byte_of (hex b) ≡ Some b
 byte_back b h = (λ k. paired (nibble_back (b / 16) (omega arith) k) (nibble_back (b % 16) (omega arith) k)) ∙ ap Some (omega arith)
 
--- four numbers, read back
-module _ (x y w : ℤ) (b : ℕ) (xs : nat_abs x < 1000) (ys : nat_abs y < 1000) (ws : nat_abs w < 1000) (bs : b < 1000) where
+-- four numbers in range, read back
+small : (d : Movement) → Shown (Move d) → (nat_abs d.dx < 1000) × (nat_abs d.dy < 1000) × (nat_abs d.wheel < 1000) × (d.buttons < 1000)
+small d h = (grind (arith, ints), grind (arith, ints), grind (arith, ints), grind (arith, nat_tests))
+
+module _ (d : Movement) (h : Shown (Move d)) where
   abbrev two : List ℕ
-  two = signed_decimal w ++ (32 ∷ decimal b)
+  two = signed_decimal d.wheel ++ (32 ∷ decimal d.buttons)
 
   abbrev three : List ℕ
-  three = signed_decimal y ++ (32 ∷ two)
+  three = signed_decimal d.dy ++ (32 ∷ two)
 
-  move_back : move_of (signed_decimal x ++ (32 ∷ three)) ≡ ranged x y w b
+  move_back : move_of (signed_decimal d.dx ++ (32 ∷ three)) ≡ Ok (Move d)
   move_back =
-      let t = signed_decimal x ++ (32 ∷ three) in
-      let fx : before 32 t ≡ signed_decimal x = before_at 32 (signed_decimal x) three (signed_lacks x xs) in
-      let tx : behind 32 t ≡ three = behind_at 32 (signed_decimal x) three (signed_lacks x xs) in
-      let fy : before 32 three ≡ signed_decimal y = before_at 32 (signed_decimal y) two (signed_lacks y ys) in
-      let ty : behind 32 three ≡ two = behind_at 32 (signed_decimal y) two (signed_lacks y ys) in
-      let fw : before 32 two ≡ signed_decimal w = before_at 32 (signed_decimal w) (decimal b) (signed_lacks w ws) in
-      let tw : behind 32 two ≡ decimal b = behind_at 32 (signed_decimal w) (decimal b) (signed_lacks w ws) in
-      let nx = ap number_of fx ∙ number_back x xs in
-      let ny = ap (λ u. number_of (before 32 u)) tx ∙ ap number_of fy ∙ number_back y ys in
-      let nw = ap (λ u. number_of (before 32 (behind 32 u))) tx ∙ ap (λ u. number_of (before 32 u)) ty ∙ ap number_of fw ∙ number_back w ws in
-      let nb = ap (λ u. count_of (behind 32 (behind 32 u))) tx ∙ ap (λ u. count_of (behind 32 u)) ty ∙ ap count_of tw ∙ count_back b bs in
-      λ k. movement_of (nx k) (ny k) (nw k) (nb k)
+      let s = small d h in
+      let x = signed_lacks d.dx s.0 in
+      let y = signed_lacks d.dy s.1 in
+      let w = signed_lacks d.wheel s.2 in
+      rw (before_at 32 (signed_decimal d.dx) three x, behind_at 32 (signed_decimal d.dx) three x, before_at 32 (signed_decimal d.dy) two y, behind_at 32 (signed_decimal d.dy) two y, before_at 32 (signed_decimal d.wheel) (decimal d.buttons) w, behind_at 32 (signed_decimal d.wheel) (decimal d.buttons) w, number_back d.dx s.0, number_back d.dy s.1, number_back d.wheel s.2, count_back d.buttons s.3, h) refl
 
 -- a word, a space and what stands behind them
 host_word : (t : List ℕ) → step_of (codes "host " ++ t) ≡ host_of (byte_of t)
@@ -113,20 +81,9 @@ move_word : (t : List ℕ) → step_of (codes "move " ++ t) ≡ move_of t
 unfolding before behind
 move_word t = rw (ne_eqb (length (codes "move " ++ t)) 0 (λ e. omega arith)) refl
 
-axis_small : (z : ℤ) → axis_in_range z ≡ true → nat_abs z < 1000
-axis_small z h = grind (arith, ints)
-
-wheel_small : (z : ℤ) → wheel_in_range z ≡ true → nat_abs z < 1000
-wheel_small z h = grind (arith, ints)
-
 pub read_back : (s : Step) → Shown s → step_of (step_words s) ≡ Ok s
 read_back Note h = absurd h
 read_back (Power Plain) h = refl
 read_back (Power Wheel) h = refl
 read_back (Host b) h = host_word (hex b) ∙ ap host_of (byte_back b h)
-read_back (Move x y w b) h =
-    let p = and_parts (axis_in_range x) _ h in
-    let q = and_parts (axis_in_range y) _ p.1 in
-    let r = and_parts (wheel_in_range w) _ q.1 in
-    let few : b < 1000 = omega (arith, leb-true b 31 r.1) in
-    move_word (signed_decimal x ++ (32 ∷ (signed_decimal y ++ (32 ∷ (signed_decimal w ++ (32 ∷ decimal b)))))) ∙ move_back x y w b (axis_small x p.0) (axis_small y q.0) (wheel_small w r.0) few ∙ rw h refl
+read_back (Move d) h = move_word _ ∙ move_back d h

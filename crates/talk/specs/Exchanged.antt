@@ -11,7 +11,8 @@
 use Rattle.std.specs.Prelude.{ℕ, ◌+◌, false, List, [], ◌∷◌, ◌++◌, map, Some, None, Ok, Err, codes, decimal, Option, Result}
 use Rattle.ps2.specs.declared.entry.Entry.{Entry}
 use Rattle.ps2.specs.Entries.{shows}
-use Rattle.ps2.specs.Events.{movement}
+use Rattle.ps2.specs.declared.event.Event.TheVariants.{Movement}
+use Rattle.ps2.specs.Events.{told}
 use Rattle.mouse.specs.declared.mouse.Mouse.{Mouse}
 use Rattle.mouse.specs.Mice.{began}
 use Rattle.mouse.specs.MouseKind.{mouse_kind}
@@ -29,14 +30,14 @@ abbrev pub acted : Step → Mouse → Mouse
 acted Note m = m
 acted (Power v) m = began v false
 acted (Host b) m = mouse_kind.received m b
-acted (Move x y w b) m = mouse_kind.happened m (movement x y w b)
+acted (Move d) m = mouse_kind.happened m (told (Movement d))
 
 abbrev pub playing : Step → Option Mouse → Result (Option Mouse) Fault
 playing s (Some m) = Ok (Some (acted s m))
 playing Note None = Ok None
 playing (Power v) None = Ok (Some (began v false))
 playing (Host b) None = Err NoMouse
-playing (Move x y w b) None = Err NoMouse
+playing (Move d) None = Err NoMouse
 
 unfoldable pub given_all : List Entry → Mouse → Mouse
 given_all [] m = m
@@ -64,13 +65,13 @@ abbrev pub step_line : List ℕ → Step → Option Mouse → List ℕ
 step_line l Note m = l ++ codes "\n"
 step_line l (Power v) m = played_line (Power v) m
 step_line l (Host b) m = played_line (Host b) m
-step_line l (Move x y w b) m = played_line (Move x y w b) m
+step_line l (Move d) m = played_line (Move d) m
 
 abbrev pub left_by : Step → Option Mouse → Option Mouse
 left_by Note m = m
 left_by (Power v) m = any_drained m
 left_by (Host b) m = any_drained m
-left_by (Move x y w b) m = any_drained m
+left_by (Move d) m = any_drained m
 
 abbrev pub fault_line : ℕ → Fault → List ℕ
 fault_line n f = codes "line " ++ (decimal n ++ (codes ": " ++ (fault_words f ++ codes "\n")))

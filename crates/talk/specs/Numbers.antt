@@ -5,7 +5,7 @@
 --   digits_of t    the number that decimal digits make
 --   count_of t     the same, of one digit or more
 --   number_of t    the same, behind a minus sign or not
-use Rattle.std.specs.Prelude.{ℕ, ◌+◌, ◌-◌, ◌*◌, ◌≤◌, min, Bool, true, false, cond, ◌&&◌, List, length, drop, ℤ, pos, neg_ℤ, Some, None, fold, Option, ◌==◌, nat_le, slice_index}
+use Rattle.std.specs.Prelude.{ℕ, ◌+◌, ◌-◌, ◌*◌, min, Bool, true, false, cond, ◌&&◌, List, length, drop, ℤ, pos, neg_ℤ, Some, None, fold, Option, ◌==◌, nat_le, slice_index}
 
 abbrev pub within : ℕ → ℕ → ℕ → Bool
 within a b c = nat_le a c && nat_le c b
@@ -24,10 +24,6 @@ byte_of t = cond (length t == 2) (paired (nibble_of (slice_index t 0)) (nibble_o
 abbrev pub one_more : Option ℕ → ℕ → Option ℕ
 one_more None c = None
 one_more (Some n) c = cond (within 48 57 c) (Some (min (10 * n + (c - 48)) 1000)) None
-
-abbrev pub Small : Option ℕ → Type 0
-Small None = Unit {0}
-Small (Some n) = n ≤ 1000
 
 abbrev pub digits_of : List ℕ → Option ℕ
 digits_of t = fold one_more (Some 0) t

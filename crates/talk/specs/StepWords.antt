@@ -17,4 +17,4 @@ abbrev pub step_words : Step → List ℕ
 step_words Note = []
 step_words (Power v) = variant_words v
 step_words (Host b) = codes "host " ++ hex b
-step_words (Move x y w b) = codes "move " ++ (signed_decimal x ++ (codes " " ++ (signed_decimal y ++ (codes " " ++ (signed_decimal w ++ (codes " " ++ decimal b))))))
+step_words (Move m) = codes "move " ++ (signed_decimal m.dx ++ (codes " " ++ (signed_decimal m.dy ++ (codes " " ++ (signed_decimal m.wheel ++ (codes " " ++ decimal m.buttons))))))

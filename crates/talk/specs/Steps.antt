@@ -1,5 +1,5 @@
 -- Steps: what a line asks for.
---   ranged x y w b   a movement, its numbers in range or not
+--   ranged d         a movement, its numbers in range or not
 --   move_of t        the movement of four numbers, with one space between them
 --   host_of b        a byte from the host
 --   action_of w t    what the word w asks for, with t behind it
@@ -8,7 +8,9 @@
 use Rattle.std.specs.Prelude.{ℕ, Bool, cond, ◌||◌, List, length, ℤ, Some, None, Ok, Err, codes, Option, Result, ◌==◌, slice_index}
 use Rattle.std.specs.Str.{bytes_eq}
 use Rattle.mouse.specs.declared.settings.Variant.TheVariants.{Plain, Wheel}
-use Rattle.ps2.specs.Events.{movement, in_range}
+use Rattle.ps2.specs.declared.event.Movement.{Movement}
+use Rattle.ps2.specs.declared.event.Event.TheVariants as event
+use Rattle.ps2.specs.Events.{told, in_range}
 use Rattle.talk.specs.declared.fault.Fault.{Fault}
 use Rattle.talk.specs.declared.fault.Fault.TheVariants.{UnknownWord, BadByte, BadMovement, OutOfRange}
 use Rattle.talk.specs.declared.step.Step.{Step}
@@ -16,15 +18,15 @@ use Rattle.talk.specs.declared.step.Step.TheVariants.{Note, Power, Host, Move}
 use Rattle.talk.specs.Texts.{before, behind}
 use Rattle.talk.specs.Numbers.{byte_of, count_of, number_of}
 
-abbrev pub ranged : ℤ → ℤ → ℤ → ℕ → Result Step Fault
-ranged x y w b = cond (in_range (movement x y w b)) (Ok (Move x y w b)) (Err OutOfRange)
+abbrev pub ranged : Movement → Result Step Fault
+ranged d = cond (in_range (told (event.Movement d))) (Ok (Move d)) (Err OutOfRange)
 
 abbrev pub movement_of : Option ℤ → Option ℤ → Option ℤ → Option ℕ → Result Step Fault
 movement_of None y w b = Err BadMovement
 movement_of (Some x) None w b = Err BadMovement
 movement_of (Some x) (Some y) None b = Err BadMovement
 movement_of (Some x) (Some y) (Some w) None = Err BadMovement
-movement_of (Some x) (Some y) (Some w) (Some b) = ranged x y w b
+movement_of (Some x) (Some y) (Some w) (Some b) = ranged (record { dx = x; dy = y; wheel = w; buttons = b })
 
 abbrev pub move_of : List ℕ → Result Step Fault
 move_of t = movement_of (number_of (before 32 t)) (number_of (before 32 (behind 32 t))) (number_of (before 32 (behind 32 (behind 32 t)))) (count_of (behind 32 (behind 32 (behind 32 t))))

@@ -3,7 +3,8 @@
 --   Shown s   a step that is no note, its numbers in range
 --   Laws      all of it together
 use Rattle.std.specs.Prelude.{◌≡◌, ℕ, ◌<◌, true, List, [], ◌∷◌, ◌++◌, Some, None, Ok, Option}
-use Rattle.ps2.specs.Events.{movement, in_range}
+use Rattle.ps2.specs.declared.event.Event.TheVariants.{Movement}
+use Rattle.ps2.specs.Events.{told, in_range}
 use Rattle.mouse.specs.declared.mouse.Mouse.{Mouse}
 use Rattle.mouse.specs.MouseKind.{mouse_kind}
 use Rattle.talk.specs.declared.step.Step.{Step}
@@ -20,7 +21,7 @@ abbrev pub Shown : Step → Type 0
 Shown Note = ⊥
 Shown (Power v) = Unit {0}
 Shown (Host b) = b < 256
-Shown (Move x y w b) = in_range (movement x y w b) ≡ true
+Shown (Move d) = in_range (told (Movement d)) ≡ true
 
 pub record Laws : Type 0 where
   -- a good line leaves nothing waiting, where nothing waited before it

@@ -7,11 +7,12 @@ ghost use Rattle.talk.specs.Exchanged.{acted, playing, answer, drained, any_answ
 ghost use Rattle.talk.specs.TalkLaws.{Laws};
 
 use crate::fault::Fault;
-use crate::parse::{cut, step_of};
-use crate::step::{Step, movement_of};
+use crate::parse::step_of;
+use crate::step::Step;
 use mouse::mouse::Mouse;
 use ps2::device::Device;
 use ps2::entry::Entry;
+use ps2::event::Event;
 use std::alloc::{AllocError, Global};
 use text::Hex;
 
@@ -25,13 +26,8 @@ fn act(mouse: &mut Mouse, step: Step)
         Step::Host(byte) => {
             mouse.receive(byte);
         }
-        Step::Move {
-            dx,
-            dy,
-            wheel,
-            buttons,
-        } => {
-            let _ = mouse.event(movement_of(dx, dy, wheel, buttons));
+        Step::Move(movement) => {
+            let _ = mouse.event(Event::Movement(movement));
         }
     }
 }
@@ -50,15 +46,14 @@ fn play(mouse: &mut Option<Mouse>, step: Step) -> Result<(), Fault>
             *mouse = Some(Mouse::new(variant));
             Ok(())
         }
-        Step::Host(_) | Step::Move { .. } => Err(Fault::NoMouse),
+        Step::Host(_) | Step::Move(_) => Err(Fault::NoMouse),
     }
 }
 
 fn write_entry(text: &mut String, entry: Entry) -> Result<(), AllocError>
     ensures { OnOk result (string_bytes text.new ≡ string_bytes text.old ++ (32 ∷ hex (shows entry))) }
 {
-    let byte = Hex(entry.shown());
-    write!(text, " {byte}")
+    write!(text, " {}", Hex(entry.shown()))
 }
 
 // All that waits in the mouse, written.
@@ -99,7 +94,7 @@ fn write_step(
 {
     match step {
         Step::Note => write!(text, "{line}\n"),
-        Step::Power(_) | Step::Host(_) | Step::Move { .. } => write_played(text, mouse, step),
+        Step::Power(_) | Step::Host(_) | Step::Move(_) => write_played(text, mouse, step),
     }
 }
 
@@ -123,17 +118,11 @@ fn write_lines(text: &mut String, input: &str) -> Result<(), AllocError>
     ensures { OnOk result (string_bytes text.new ≡ string_bytes text.old ++ exchanged input.now) }
 {
     let mut mouse = None;
-    let mut number = 0;
-    let mut rest = input;
-    while !rest.is_empty() {
-        let (line, after) = cut(rest, '\n');
-        number += 1;
-        let step = match take_line(&mut mouse, line) {
-            Ok(step) => step,
-            Err(fault) => return write_fault(text, number, fault),
-        };
-        write_step(text, &mut mouse, line, step)?;
-        rest = after;
+    for (index, line) in input.split_terminator('\n').enumerate() {
+        match take_line(&mut mouse, line) {
+            Ok(step) => write_step(text, &mut mouse, line, step)?,
+            Err(fault) => return write_fault(text, index + 1, fault),
+        }
     }
     Ok(())
 }
@@ -142,10 +131,8 @@ fn text_of(heap: Global, input: &str) -> Result<String, AllocError>
     ensures { IfOk result (λ t. string_bytes t ≡ exchanged input.now) }
 {
     let mut text = String::new(heap);
-    match write_lines(&mut text, input) {
-        Ok(()) => Ok(text),
-        Err(memory) => Err(memory),
-    }
+    write_lines(&mut text, input)?;
+    Ok(text)
 }
 
 // A talk with a mouse: each line of the input with what the mouse gives then.

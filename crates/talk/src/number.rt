@@ -1,16 +1,13 @@
 // Numbers in a line.
-ghost use Rattle.std.specs.Prelude.{◌≡◌};
-ghost use Rattle.talk.specs.Numbers.{nibble_of, byte_of, one_more, Small, digits_of, count_of, signed_of, number_of};
+ghost use Rattle.std.specs.Prelude.{◌≡◌, Some};
+ghost use Rattle.talk.specs.Numbers.{nibble_of, byte_of, one_more, count_of, number_of};
+
+use std::marker::Model;
 
 fn nibble(digit: u8) -> Option<u8>
     ensures { result ≡ nibble_of digit }
 {
-    match digit {
-        b'0'..=b'9' => Some(digit - b'0'),
-        b'a'..=b'f' => Some(digit - b'a' + 10),
-        b'A'..=b'F' => Some(digit - b'A' + 10),
-        _ => None,
-    }
+    char::from(digit).to_digit(16).map(|value| value as u8)
 }
 
 pub(crate) fn byte(text: &[u8]) -> Option<u8>
@@ -22,53 +19,60 @@ pub(crate) fn byte(text: &[u8]) -> Option<u8>
     Some(16 * nibble(*high)? + nibble(*low)?)
 }
 
-// A number with one decimal digit more. All above 999 are out of range alike.
-fn one_more(n: Option<u16>, digit: u8) -> Option<u16>
-    requires { Small n }
-    ensures value { result ≡ one_more n digit }
-    ensures small { Small result }
-{
-    match digit {
-        b'0'..=b'9' => Some((10 * n? + u16::from(digit - b'0')).min(1000)),
-        _ => None,
+// A number of at most 1000: all above 999 are out of range alike.
+#[derive(Clone, Copy)]
+pub(crate) struct Capped {
+    n: u16,
+}
+
+impl Model for Capped {
+    ghost use Rattle.std.specs.Prelude.{ℕ, ◌≤◌};
+
+    ghost Value = { ℕ };
+
+    ghost view = { λ c. c.n };
+
+    ghost invariant = { λ c. c.n ≤ 1000 };
+
+    ghost inverse = { λ n. record { n = n } };
+}
+
+impl Capped {
+    pub(crate) fn get(self) -> u16
+        ensures { result ≡ self }
+    {
+        self.n
+    }
+
+    // The number with one decimal digit more.
+    fn with_digit(self, digit: u8) -> Option<Capped>
+        ensures { result ≡ one_more (Some self) digit }
+    {
+        let value = char::from(digit).to_digit(10)?;
+        Some(Capped {
+            n: (10 * self.n + value as u16).min(1000),
+        })
     }
 }
 
-fn digits_of(digits: &[u8]) -> Option<u16>
-    ensures value { result ≡ digits_of digits.now }
-    ensures small { Small result }
-{
-    let mut n = Some(0);
-    for digit in digits {
-        n = one_more(n, *digit);
-    }
-    n
-}
-
-pub(crate) fn count(digits: &[u8]) -> Option<u16>
-    ensures value { result ≡ count_of digits.now }
-    ensures small { Small result }
+pub(crate) fn count(digits: &[u8]) -> Option<Capped>
+    ensures { result ≡ count_of digits.now }
 {
     if digits.is_empty() {
-        None
-    } else {
-        digits_of(digits)
+        return None;
     }
-}
-
-fn signed_count(minus: bool, n: Option<u16>) -> Option<i16>
-    requires { Small n }
-    ensures { result ≡ signed_of minus n }
-{
-    let n = n? as i16;
-    Some(if minus { -n } else { n })
+    digits
+        .iter()
+        .fold(Some(Capped { n: 0 }), |n, digit| n?.with_digit(*digit))
 }
 
 pub(crate) fn number(text: &[u8]) -> Option<i16>
     ensures { result ≡ number_of text.now }
 {
-    match text {
-        [b'-', digits @ ..] => signed_count(true, count(digits)),
-        digits => signed_count(false, count(digits)),
-    }
+    let (minus, digits) = match text {
+        [b'-', digits @ ..] => (true, digits),
+        digits => (false, digits),
+    };
+    let n = count(digits)?.n as i16;
+    Some(if minus { -n } else { n })
 }

@@ -1,10 +1,9 @@
 // A step of a talk: a note, or something that is done to the mouse.
 ghost use Rattle.std.specs.Prelude.{◌≡◌, Some};
-ghost use Rattle.ps2.specs.Events.{told, movement};
 ghost use Rattle.talk.specs.StepWords.{variant_words, step_words};
 
 use mouse::settings::Variant;
-use ps2::event::Event;
+use ps2::event::Movement;
 use std::fmt;
 use text::Hex;
 
@@ -13,26 +12,16 @@ pub(crate) enum Step {
     Note,
     Power(Variant),
     Host(u8),
-    Move {
-        dx: i16,
-        dy: i16,
-        wheel: i8,
-        buttons: u8,
-    },
+    Move(Movement),
 }
 
 // A model by its name.
-#[derive(Clone, Copy)]
-struct Model(Variant);
-
-impl fmt::Display for Model {
-    ghost output = { λ m. Some (variant_words m.0) };
-
-    fn fmt<W: fmt::Write>(&self, f: &mut fmt::Formatter<W>) -> fmt::Result {
-        match self.0 {
-            Variant::Plain => write!(f, "plain"),
-            Variant::Wheel => write!(f, "wheel"),
-        }
+fn name(variant: Variant) -> &'static str
+    ensures { result.now ≡ variant_words variant }
+{
+    match variant {
+        Variant::Plain => "plain",
+        Variant::Wheel => "wheel",
     }
 }
 
@@ -42,31 +31,9 @@ impl fmt::Display for Step {
     fn fmt<W: fmt::Write>(&self, f: &mut fmt::Formatter<W>) -> fmt::Result {
         match *self {
             Step::Note => Ok(()),
-            Step::Power(variant) => {
-                let model = Model(variant);
-                write!(f, "{model}")
-            }
-            Step::Host(byte) => {
-                let byte = Hex(byte);
-                write!(f, "host {byte}")
-            }
-            Step::Move {
-                dx,
-                dy,
-                wheel,
-                buttons,
-            } => write!(f, "move {dx} {dy} {wheel} {buttons}"),
+            Step::Power(variant) => f.write_str(name(variant)),
+            Step::Host(byte) => write!(f, "host {}", Hex(byte)),
+            Step::Move(m) => write!(f, "move {} {} {} {}", m.dx, m.dy, m.wheel, m.buttons),
         }
-    }
-}
-
-pub(crate) fn movement_of(dx: i16, dy: i16, wheel: i8, buttons: u8) -> Event<'static>
-    ensures { told result ≡ movement dx dy wheel buttons }
-{
-    Event::Movement {
-        dx,
-        dy,
-        wheel,
-        buttons,
     }
 }
