@@ -48,6 +48,7 @@ impl<'a> Reader<'a> {
     }
 
     // The next record, if any is left.
+    #[tactic(auto, using(crate::proofs::Steps::reading, crate::proofs::Back::reads_back))]
     pub fn next_record(&mut self) -> Result<Option<Record<'a>>, Refusal>
         ensures step { Step self.old (told result) self.new }
         ensures keeps { Keeps self.old (told result) self.new }

@@ -9,16 +9,7 @@ pub enum Record<'a> {
     StatusRead,
     DataRead,
     Turn,
-    Movement {
-        line: u8,
-        movement: Movement,
-    },
-    Stroke {
-        line: u8,
-        bytes: &'a [u8],
-    },
-    Cable {
-        line: u8,
-        action: u8,
-    },
+    Movement { line: u8, movement: Movement },
+    Stroke { line: u8, bytes: &'a [u8] },
+    Cable { line: u8, action: u8 },
 }
