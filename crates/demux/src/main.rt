@@ -2,11 +2,12 @@
 #![tactic(auto)]
 
 use anyhow::anyhow;
+use lanes::lane::MOST_READINGS;
 use report::demux::demux;
 use std::io::Read;
 
 // One reading more than are accepted, so that too many are seen to be too many.
-const MOST_BYTES: u64 = 2 * 32_769;
+const MOST_BYTES: u64 = 2 * (MOST_READINGS as u64 + 1);
 
 fn run(rt: &HostRuntime) -> anyhow::Result<()> {
     let mut input = Vec::new(rt.alloc());

@@ -6,13 +6,15 @@ use std::io::Read;
 use std::str::from_utf8;
 use talk::exchange::exchange;
 
-// One byte more than is accepted, so that too long an input is seen to be too long.
-const MOST_BYTES: u64 = 65_537;
+const MOST_BYTES: usize = 65_536;
 
 fn run(rt: &HostRuntime) -> anyhow::Result<()> {
     let mut input = Vec::new(rt.alloc());
-    rt.stdin().take(MOST_BYTES).read_to_end(&mut input)?;
-    if input.len() > 65_536 {
+    // one byte more than is accepted, so that too long an input is seen to be too long
+    rt.stdin()
+        .take(MOST_BYTES as u64 + 1)
+        .read_to_end(&mut input)?;
+    if input.len() > MOST_BYTES {
         return Err(anyhow!("the input is above 65,536 bytes"));
     }
     let Ok(text) = from_utf8(input.as_slice()) else {

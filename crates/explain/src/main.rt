@@ -2,10 +2,11 @@
 #![tactic(auto)]
 
 use report::explain::explain;
+use session::reader::LONGEST_FILE;
 use std::io::Read;
 
 // One byte more than is accepted, so that too long a file is seen to be too long.
-const MOST_BYTES: u64 = 65_537;
+const MOST_BYTES: u64 = LONGEST_FILE as u64 + 1;
 
 fn run(rt: &HostRuntime) -> anyhow::Result<()> {
     let mut file = Vec::new(rt.alloc());

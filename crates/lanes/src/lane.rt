@@ -8,7 +8,7 @@ use ps2::refusal::Refusal;
 
 const LAST_PORT: u8 = 3;
 
-const MOST_READINGS: usize = 32_768;
+pub const MOST_READINGS: usize = 32_768;
 
 // The readings that belong to no port: how many, and how many of them are AUX bytes with Error set.
 #[derive(Clone, Copy, PartialEq, Eq, Debug)]

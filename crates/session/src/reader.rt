@@ -7,7 +7,7 @@ use crate::decode::first;
 use crate::record_kinds::Record;
 use ps2::refusal::Refusal;
 
-const LONGEST_FILE: usize = 65_536;
+pub const LONGEST_FILE: usize = 65_536;
 
 #[derive(Clone, Copy)]
 pub struct Reader<'a> {
