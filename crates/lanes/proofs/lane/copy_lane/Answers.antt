@@ -39,14 +39,11 @@ bounds-out-place c = omega (arith, turn c)
 pub loop-place-preserved : goal.loop-place-preserved
 loop-place-preserved c = simp (c.data_of.ensures, c.loop-place.invariant) (written _ _ _ _ _ _ _ (turn c) c.requires (length_push _ _))
 
-turns : (p : ℕ) (rs : List ℕ) → length (enumerate_from 0 (filter (is_of p) rs)) ≡ length (lane p rs)
-unfolding lane
-turns p rs = grind (arith, length-enumerate_from, length-map)
-
 pub returns : goal.returns
+unfolding lane
 returns c =
     let seen = YieldsList-end
     (YieldsList-at c.into_iter-place-iterator.ensures.into_iter_gives (YieldsList-from_enumerate (YieldsList-at c.enumerate-place-items.ensures.source
     (YieldsList-from_filter _ (is_of c.args.port) (YieldsList-from_slice c.args.readings.now cc) c.filter.ensures.closure (λ x r q k. search (rules, tests)))) c.enumerate-place-items.ensures.count))
     c.loop-place.yielded _ c.loop-place.yielded_by _ _ c.in-None.is c.next.ensures.steps in
-    grind (arith, common_steps, turns c.args.port c.args.readings.now, seen.1, paste_all)
+    grind (arith, common_steps, length-enumerate_from, seen.1, paste_all)
