@@ -83,10 +83,7 @@ pub(crate) fn movement_packet(id: Identity, counters: Counters, buttons: u8) -> 
 fn status_byte(settings: Settings, buttons: u8) -> u8
     ensures { result ≡ status_byte settings buttons }
 {
-    let remote = match settings.mode {
-        Mode::Stream => 0,
-        Mode::Remote => 64,
-    };
+    let remote = 64 * u8::from(settings.mode == Mode::Remote);
     let set = 32 * u8::from(settings.reporting) + 16 * u8::from(settings.doubled);
     remote + set + 4 * (buttons % 2) + 2 * (buttons / 4 % 2) + buttons / 2 % 2
 }

@@ -7,7 +7,7 @@ use Rattle.ps2.specs.declared.refusal.Refusal.{Refusal}
 use Rattle.ps2.specs.declared.refusal.Refusal.TheVariants.{FileEndsInside}
 use Rattle.ps2.specs.Refusals.{refusing}
 use Rattle.session.specs.Records.{Item, command_write, data_write, status_read, data_read, turn, movement, stroke, cable, kind_of, payload_of, bytes_of, pair, word, said}
-use Rattle.session.specs.Files.{headed}
+use Rattle.session.specs.Files.{headed, said_by, first}
 
 -- the n elements from place i on, one by one
 abbrev listed : ℕ → ℕ → List ℕ → List ℕ
@@ -61,13 +61,13 @@ spelled k bs small =
     stroked h = sym (drop_more bs 0 0 (omega (arith, length-drop 1 bs)))
 
 -- a header whose payload is there whole
-pub record Whole (bs : List ℕ) (n k : ℕ) : Type 0 where
-  pub long : 4 ≤ length bs
-  pub fits : n ≤ length bs - 4
-  pub size : n ≡ word bs 0
-  pub kind : k ≡ word bs 2
+record Whole (bs : List ℕ) (n k : ℕ) : Type 0 where
+  long : 4 ≤ length bs
+  fits : n ≤ length bs - 4
+  size : n ≡ word bs 0
+  kind : k ≡ word bs 2
 
-pub headed_whole : (bs : List ℕ) (n k : ℕ) → ◌≡◌ {A = Result (ℕ × ℕ) Refusal} (Ok (n, k)) (headed bs) → Whole bs n k
+headed_whole : (bs : List ℕ) (n k : ℕ) → ◌≡◌ {A = Result (ℕ × ℕ) Refusal} (Ok (n, k)) (headed bs) → Whole bs n k
 headed_whole bs n k = go (ltb (length bs) 4) (ltb (length bs - 4) (word bs 0)) refl refl
   where
     go : (s t : Bool) → ltb (length bs) 4 ≡ s → ltb (length bs - 4) (word bs 0) ≡ t → ◌≡◌ {A = Result (ℕ × ℕ) Refusal} (Ok (n, k)) (refusing s FileEndsInside (refusing t FileEndsInside (Ok (word bs 0, word bs 2)))) → Whole bs n k
@@ -79,7 +79,7 @@ headed_whole bs n k = go (ltb (length bs) 4) (ltb (length bs - 4) (word bs 0)) r
         record { long = ltb-false _ _ a; fits = omega (arith, size, ltb-false _ _ b); size = size; kind = ap (λ (p : ℕ × ℕ). p.1) p }
 
 -- the bytes of the record behind such a header, and those behind the record, are all
-pub bytes_first : (bs : List ℕ) (n k : ℕ) → Whole bs n k → ((i : ℕ) → get_or bs i 0 < 256) → (i : Item) → said k (take n (drop 4 bs)) ≡ Ok i → bytes_of i ++ drop (4 + n) bs ≡ bs
+bytes_first : (bs : List ℕ) (n k : ℕ) → Whole bs n k → ((i : ℕ) → get_or bs i 0 < 256) → (i : Item) → said k (take n (drop 4 bs)) ≡ Ok i → bytes_of i ++ drop (4 + n) bs ≡ bs
 bytes_first bs n k w small i e =
     let body = take n (drop 4 bs) in
     let size : length body ≡ n = length-take-le n (drop 4 bs) (simp length-drop w.fits) in
@@ -94,3 +94,16 @@ bytes_first bs n k w small i e =
     small_part : (j : ℕ) → (j < n) ⊎ (n ≤ j) → length (take n (drop 4 bs)) ≡ n → get_or (take n (drop 4 bs)) j 0 < 256
     small_part j (inl h) size = rw (get_or-take n (drop 4 bs) j 0 h, get_or-drop 4 bs j 0) (small (4 + j))
     small_part j (inr h) size = rw (get_or_past (take n (drop 4 bs)) j 0 (omega arith)) (omega arith)
+
+-- what the payload behind such a header says is the first record
+pub says_first : (bs payload : List ℕ) (k : ℕ) → ◌≡◌ {A = Result (ℕ × ℕ) Refusal} (Ok (length payload, k)) (headed bs) → payload ≡ take (word bs 0) (drop 4 bs) → said k payload ≡ first bs
+says_first bs payload k h p =
+    let w = headed_whole bs (length payload) k h in
+    ap (said k) (p ∙ ap (λ n. take n (drop 4 bs)) (sym w.size)) ∙ ap (λ h. said_by h bs) h
+
+pub found : (bs payload rest : List ℕ) (k : ℕ) → ◌≡◌ {A = Result (ℕ × ℕ) Refusal} (Ok (length payload, k)) (headed bs) → payload ≡ take (word bs 0) (drop 4 bs) → rest ≡ drop (4 + word bs 0) bs →
+    ((i : ℕ) → get_or bs i 0 < 256) → (i : Item) → Ok i ≡ said k payload → (Ok i ≡ first bs) × (rest ≡ drop (4 + word bs 0) bs) × (bytes_of i ++ rest ≡ bs)
+found bs payload rest k h p r small i e =
+    let w = headed_whole bs (length payload) k h in
+    let same = ap (λ n. take n (drop 4 bs)) w.size in
+    (e ∙ says_first bs payload k h p, r, ap (λ l. bytes_of i ++ l) (r ∙ ap (λ n. drop (4 + n) bs) (sym w.size)) ∙ bytes_first bs (length payload) k w small i (ap (said k) (same ∙ sym p) ∙ sym e))

@@ -9,7 +9,6 @@ use Rattle.std.specs.List.{flat_map}
 use Rattle.ps2.specs.declared.refusal.Refusal.{Refusal}
 use Rattle.ps2.specs.declared.refusal.Refusal.TheVariants.{FileEndsInside, FileTooLong}
 use Rattle.ps2.specs.Refusals.{refusing}
-use Rattle.session.specs.declared.decode.Header.{Header}
 use Rattle.session.specs.Records.{Item, bytes_of, Valid, word, said}
 
 -- payload length and kind, where header and payload are there whole
@@ -18,10 +17,6 @@ headed bs =
     refusing (nat_lt (length bs) 4) FileEndsInside
     (refusing (nat_lt (length bs - 4) (word bs 0)) FileEndsInside
     (Ok (word bs 0, word bs 2)))
-
-abbrev pub plain_header : Result Header Refusal → Result (ℕ × ℕ) Refusal
-plain_header (Ok h) = Ok (h.length, h.kind)
-plain_header (Err e) = Err e
 
 -- what the payload behind a header says
 abbrev pub said_by : Result (ℕ × ℕ) Refusal → List ℕ → Result Item Refusal

@@ -2,14 +2,15 @@
 --   file_of r     the whole file
 --   left_of r     the bytes it has not read
 --   Handed is r   the records is, each with its header, joined in order, are the bytes it has read: then come those left
-use Rattle.std.specs.Prelude.{◌≡◌, ℕ, ◌+◌, ◌<◌, ◌≤◌, List, [], ◌∷◌, ◌++◌, length, drop, Some, None, Ok, Err, Option, Result}
+use Rattle.std.specs.Prelude.{◌≡◌, ℕ, ◌+◌, ◌<◌, ◌≤◌, List, [], ◌∷◌, ◌++◌, length, take, drop, Some, None, Ok, Err, Option, Result}
 use Rattle.std.specs.Borrow.{Bor}
 use Rattle.std.specs.List.{flat_map}
 use Rattle.ps2.specs.declared.refusal.Refusal.{Refusal}
 use Rattle.session.specs.declared.record_kinds.Record.{Record}
+use Rattle.session.specs.declared.decode.Parts.{Parts}
 use Rattle.session.specs.declared.reader.Reader.{Reader}
 use Rattle.session.specs.Records.{Item, item_of, bytes_of, word}
-use Rattle.session.specs.Files.{first, session, answered, behind}
+use Rattle.session.specs.Files.{headed, first, session, answered, behind}
 
 abbrev pub file_of : Reader → List ℕ
 file_of r = r.file.now
@@ -44,6 +45,11 @@ Opened None file (Ok r) = AtStart file r
 Opened None file (Err e) = ⊥
 Opened (Some e) file (Ok r) = ⊥
 Opened (Some e) file (Err f) = f ≡ e
+
+-- a header taken from the front of some bytes, which announces the payload behind it; the rest is behind that
+abbrev pub Split : List ℕ → Result Parts Refusal → Type 0
+Split bs (Ok p) = (Ok (length p.payload.now, p.kind) ≡ headed bs) × (p.payload.now ≡ take (word bs 0) (drop 4 bs)) × (p.rest.now ≡ drop (4 + word bs 0) bs)
+Split bs (Err e) = Err e ≡ headed bs
 
 -- the front of some bytes read as a record: what it says, and that its bytes and those behind it are all
 abbrev pub Found : List ℕ → Result (Record × Bor (List ℕ)) Refusal → Type 0

@@ -1,40 +1,48 @@
 // One record, from its bytes.
 ghost use Rattle.std.specs.Prelude.{◌≡◌, length};
 ghost use Rattle.session.specs.Records.{stroke_length, said, plain};
-ghost use Rattle.session.specs.Files.{headed, plain_header};
-ghost use Rattle.session.specs.Readers.{Found};
+ghost use Rattle.session.specs.Readers.{Split, Found};
 
 use crate::record_kinds::Record;
 use ps2::event::Movement;
 use ps2::refusal::Refusal;
 
-struct Header {
-    length: usize,
+// A record's kind, its payload, which is there whole, and the bytes behind the record.
+struct Parts<'a> {
     kind: u16,
+    payload: &'a [u8],
+    rest: &'a [u8],
 }
 
-// The header at the front of the bytes left, whose payload is there whole.
-fn read_header(left: &[u8]) -> Result<Header, Refusal>
-    ensures { plain_header result ≡ headed left.now }
+// Takes the header from the front of the bytes left, and what it announces.
+fn split(left: &[u8]) -> Result<Parts<'_>, Refusal>
+    ensures { Split left.now result }
 {
     let [length_low, length_high, kind_low, kind_high, body @ ..] = left else {
         return Err(Refusal::FileEndsInside);
     };
     let length = u16::from_le_bytes([*length_low, *length_high]) as usize;
     let kind = u16::from_le_bytes([*kind_low, *kind_high]);
-    if body.len() < length {
-        return Err(Refusal::FileEndsInside);
-    }
-    Ok(Header { length, kind })
+    let (payload, rest) = body
+        .split_at_checked(length)
+        .ok_or(Refusal::FileEndsInside)?;
+    Ok(Parts {
+        kind,
+        payload,
+        rest,
+    })
 }
 
 // The record at the front of the bytes left, and the bytes behind it.
-pub(crate) fn first<'a>(left: &'a [u8]) -> Result<(Record<'a>, &'a [u8]), Refusal>
+pub(crate) fn first(left: &[u8]) -> Result<(Record<'_>, &[u8]), Refusal>
     ensures { Found left.now result }
 {
-    let Header { length, kind } = read_header(left)?;
-    let found = decode(kind, &left[4..4 + length])?;
-    Ok((found, &left[4 + length..]))
+    let Parts {
+        kind,
+        payload,
+        rest,
+    } = split(left)?;
+    Ok((decode(kind, payload)?, rest))
 }
 
 fn is_stroke(bytes: &[u8]) -> bool
@@ -44,7 +52,7 @@ fn is_stroke(bytes: &[u8]) -> bool
 }
 
 // What a payload of a kind says.
-fn decode<'a>(kind: u16, payload: &'a [u8]) -> Result<Record<'a>, Refusal>
+fn decode(kind: u16, payload: &[u8]) -> Result<Record<'_>, Refusal>
     ensures { plain result ≡ said kind payload.now }
 {
     match (kind, payload) {
