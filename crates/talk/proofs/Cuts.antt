@@ -1,5 +1,5 @@
 -- Texts cut at a character.
-use Rattle.std.proofs.Common.{◌≡◌, ℕ, suc, ◌<◌, true, false, eqb, List, [], ◌∷◌, ◌++◌, length, get_or, Bor, Option, None, Some, MatchOption, unwrap_or, sym, refl, ap, ◌∙◌, arith, eq-eqb, ne_eqb}
+use Rattle.std.proofs.Common.{◌≡◌, ℕ, suc, ◌<◌, false, eqb, List, [], ◌∷◌, ◌++◌, length, get_or, Bor, Option, None, Some, MatchOption, unwrap_or, sym, refl, ap, ◌∙◌, arith, eq-eqb, ne_eqb}
 use Rattle.talk.specs.Texts.{before, behind}
 
 -- no c in a text
@@ -12,17 +12,14 @@ lacks_head c b t h = ne_eqb b c (h 0 (omega arith))
 pub lacks_tail : (c b : ℕ) (t : List ℕ) → Lacks c (b ∷ t) → Lacks c t
 lacks_tail c b t h i lt = h (suc i) (omega arith)
 
-same : (c : ℕ) → eqb c c ≡ true
-same c = eq-eqb c c refl
-
 pub before_at : (c : ℕ) (t u : List ℕ) → Lacks c t → before c (t ++ (c ∷ u)) ≡ t
 unfolding before
-before_at c [] u h = rw (same c)
+before_at c [] u h = rw (eq-eqb c c refl)
 before_at c (b ∷ t) u h = rw (lacks_head c b t h) (ap (λ t. b ∷ t) (before_at c t u (lacks_tail c b t h)))
 
 pub behind_at : (c : ℕ) (t u : List ℕ) → Lacks c t → behind c (t ++ (c ∷ u)) ≡ u
 unfolding behind
-behind_at c [] u h = rw (same c)
+behind_at c [] u h = rw (eq-eqb c c refl)
 behind_at c (b ∷ t) u h = rw (lacks_head c b t h) (behind_at c t u (lacks_tail c b t h))
 
 pub before_none : (c : ℕ) (t : List ℕ) → Lacks c t → before c t ≡ t
