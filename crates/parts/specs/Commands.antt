@@ -43,9 +43,9 @@ is_prefix b = nat_le 0x90 b && nat_le b 0x93
 
 abbrev pub decoded : Option Awaited → ℕ → Option Command
 decoded a b =
-    cond (is_prefix b) (Some (Await (Route (port_at (b - 0x90)))))
+    cond (is_prefix b) (Some (Await (Some (Route (port_at (b - 0x90))))))
     (cond (b == 0x20) (Some ReadCommandByte)
-    (cond (b == 0x60) (Some (Await CommandByte))
+    (cond (b == 0x60) (Some (Await (Some CommandByte)))
     (cond (b == 0xa7) (Some (Disable (aux_gate a)))
     (cond (b == 0xa8) (Some (Enable (aux_gate a)))
     (cond (b == 0xa9) (Some AuxTest)
@@ -53,14 +53,14 @@ decoded a b =
     (cond (b == 0xab) (Some KeyboardTest)
     (cond (b == 0xad) (Some (Disable gate.Keyboard))
     (cond (b == 0xae) (Some (Enable gate.Keyboard))
-    (cond (b == 0xd2) (Some (Await KeyboardLoopback))
-    (cond (b == 0xd3) (Some (Await AuxLoopback))
-    (cond (b == 0xd4) (Some (Await AuxSend)) None))))))))))))
+    (cond (b == 0xd2) (Some (Await (Some KeyboardLoopback)))
+    (cond (b == 0xd3) (Some (Await (Some AuxLoopback)))
+    (cond (b == 0xd4) (Some (Await (Some AuxSend))) None))))))))))))
 
 -- what the next data byte is for after a command
 abbrev pub command_awaits : Command → Option Awaited
 command_awaits ReadCommandByte = None
-command_awaits (Await a) = Some a
+command_awaits (Await a) = a
 command_awaits (Disable g) = None
 command_awaits (Enable g) = None
 command_awaits AuxTest = None

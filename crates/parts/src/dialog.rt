@@ -22,7 +22,8 @@ pub enum Awaited {
 #[derive(Clone, Copy)]
 pub enum Command {
     ReadCommandByte,
-    Await(Awaited),
+    // what it makes of the next data byte
+    Await(Option<Awaited>),
     Disable(Gate),
     Enable(Gate),
     AuxTest,
@@ -58,8 +59,8 @@ impl Command {
     {
         let command = match byte {
             0x20 => Command::ReadCommandByte,
-            0x60 => Command::Await(Awaited::CommandByte),
-            0x90..=0x93 => Command::Await(Awaited::Route(Port::at(byte - 0x90))),
+            0x60 => Command::Await(Some(Awaited::CommandByte)),
+            0x90..=0x93 => Command::Await(Some(Awaited::Route(Port::at(byte - 0x90)))),
             0xA7 if let Some(Awaited::Route(p)) = awaited => Command::Disable(Gate::OnePort(p)),
             0xA7 => Command::Disable(Gate::Aux),
             0xA8 if let Some(Awaited::Route(p)) = awaited => Command::Enable(Gate::OnePort(p)),
@@ -69,9 +70,9 @@ impl Command {
             0xAB => Command::KeyboardTest,
             0xAD => Command::Disable(Gate::Keyboard),
             0xAE => Command::Enable(Gate::Keyboard),
-            0xD2 => Command::Await(Awaited::KeyboardLoopback),
-            0xD3 => Command::Await(Awaited::AuxLoopback),
-            0xD4 => Command::Await(Awaited::AuxSend),
+            0xD2 => Command::Await(Some(Awaited::KeyboardLoopback)),
+            0xD3 => Command::Await(Some(Awaited::AuxLoopback)),
+            0xD4 => Command::Await(Some(Awaited::AuxSend)),
             _ => return None,
         };
         Some(command)
@@ -84,7 +85,7 @@ impl HostByte {
         ensures { result ≡ awaits self }
     {
         match self {
-            HostByte::Command(Command::Await(awaited)) => Some(awaited),
+            HostByte::Command(Command::Await(awaited)) => awaited,
             HostByte::Command(_) | HostByte::Data(_) => None,
         }
     }

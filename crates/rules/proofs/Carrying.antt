@@ -176,11 +176,12 @@ module _ {K : Kinds} where
 
   obeys : (c : Command) (t : State K) → mode_of (obey c t) ≡ Multiplexed → Works none t.dialog.place t (obey c t)
   obeys ReadCommandByte t m = answered t.settings.command t
-  obeys (Await CommandByte) t m = same t t refl refl refl refl refl
-  obeys (Await KeyboardLoopback) t m = same t t refl refl refl refl refl
-  obeys (Await AuxLoopback) t m = same t t refl refl refl refl refl
-  obeys (Await AuxSend) t m = absurd (modes_apart m)
-  obeys (Await (Route p)) t m = same t t refl refl refl refl refl
+  obeys (Await None) t m = same t t refl refl refl refl refl
+  obeys (Await (Some CommandByte)) t m = same t t refl refl refl refl refl
+  obeys (Await (Some KeyboardLoopback)) t m = same t t refl refl refl refl refl
+  obeys (Await (Some AuxLoopback)) t m = same t t refl refl refl refl refl
+  obeys (Await (Some AuxSend)) t m = absurd (modes_apart m)
+  obeys (Await (Some (Route p))) t m = same t t refl refl refl refl refl
   obeys (Disable gate.Keyboard) t m = same t _ refl refl refl refl refl
   obeys (Disable gate.Aux) t m = same t _ refl refl refl refl refl
   obeys (Disable (gate.OnePort p)) t m = same t _ refl refl refl refl refl
@@ -232,11 +233,12 @@ module _ {K : Kinds} where
   -- while the controller multiplexes, nothing awaits a byte for port 0 alone
   obey_fits : (c : Command) (s : State K) → mode_of (obey c s) ≡ Multiplexed → is_aux_send (command_awaits c) ≡ false
   obey_fits ReadCommandByte s m = refl
-  obey_fits (Await CommandByte) s m = refl
-  obey_fits (Await KeyboardLoopback) s m = refl
-  obey_fits (Await AuxLoopback) s m = refl
-  obey_fits (Await AuxSend) s m = absurd (modes_apart m)
-  obey_fits (Await (Route p)) s m = refl
+  obey_fits (Await None) s m = refl
+  obey_fits (Await (Some CommandByte)) s m = refl
+  obey_fits (Await (Some KeyboardLoopback)) s m = refl
+  obey_fits (Await (Some AuxLoopback)) s m = refl
+  obey_fits (Await (Some AuxSend)) s m = absurd (modes_apart m)
+  obey_fits (Await (Some (Route p))) s m = refl
   obey_fits (Disable g) s m = refl
   obey_fits (Enable g) s m = refl
   obey_fits AuxTest s m = refl
@@ -276,11 +278,12 @@ module _ {K : Kinds} where
 
   obey_stays : (c : Command) (s : State K) → mode_of s ≡ Legacy → mode_of (obey c s) ≡ Legacy
   obey_stays ReadCommandByte s e = e
-  obey_stays (Await CommandByte) s e = e
-  obey_stays (Await KeyboardLoopback) s e = e
-  obey_stays (Await AuxLoopback) s e = e
-  obey_stays (Await AuxSend) s e = refl
-  obey_stays (Await (Route p)) s e = e
+  obey_stays (Await None) s e = e
+  obey_stays (Await (Some CommandByte)) s e = e
+  obey_stays (Await (Some KeyboardLoopback)) s e = e
+  obey_stays (Await (Some AuxLoopback)) s e = e
+  obey_stays (Await (Some AuxSend)) s e = refl
+  obey_stays (Await (Some (Route p))) s e = e
   obey_stays (Disable gate.Keyboard) s e = e
   obey_stays (Disable gate.Aux) s e = e
   obey_stays (Disable (gate.OnePort p)) s e = e

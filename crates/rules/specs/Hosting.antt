@@ -44,12 +44,13 @@ module _ {K : Kinds} where
   answer b s = hold Controller (Byte b) s
 
   -- D4h reverts at once; the other commands that await a byte do no more
-  abbrev pub await : Awaited → State K → State K
-  await CommandByte s = s
-  await KeyboardLoopback s = s
-  await AuxLoopback s = s
-  await AuxSend s = revert s
-  await (Route p) s = s
+  abbrev pub await : Option Awaited → State K → State K
+  await None s = s
+  await (Some CommandByte) s = s
+  await (Some KeyboardLoopback) s = s
+  await (Some AuxLoopback) s = s
+  await (Some AuxSend) s = revert s
+  await (Some (Route p)) s = s
 
   abbrev pub obey : Command → State K → State K
   obey ReadCommandByte s = answer s.settings.command s

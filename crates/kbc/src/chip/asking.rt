@@ -62,7 +62,7 @@ impl<B: Bank> Chip<B> {
             return Err(Refusal::InputFull);
         }
         match command {
-            Command::Await(Awaited::Route(_)) if self.settings.mode == Mode::Legacy => {
+            Command::Await(Some(Awaited::Route(_))) if self.settings.mode == Mode::Legacy => {
                 Err(Refusal::PrefixInLegacy)
             }
             _ => {

@@ -37,7 +37,7 @@ impl<B: Bank> Chip<B> {
     {
         match command {
             Command::ReadCommandByte => self.answer(self.settings.command),
-            Command::Await(Awaited::AuxSend) => self.revert(),
+            Command::Await(Some(Awaited::AuxSend)) => self.revert(),
             Command::Await(_) => {}
             Command::Disable(gate) => self.settings.disable(gate),
             Command::Enable(gate) => self.settings.enable(gate),
