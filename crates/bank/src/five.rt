@@ -9,6 +9,7 @@ use ps2::entry::Entry;
 use ps2::event::Event;
 use ps2::refusal::Refusal;
 
+// Each call has a match of its own: the five types differ, and a `dyn` of one would have to be handed out.
 #[derive(Drop)]
 pub struct Five<P0, P1, P2, P3, K> {
     pub port0: P0,

@@ -18,6 +18,7 @@ use ps2::device::Device;
 use ps2::event::Event;
 use ps2::refusal::Refusal;
 
+// A type of its own over the chip and no alias: its contracts speak of five devices' models, and of no bank.
 #[derive(Drop)]
 pub struct Controller<P0, P1, P2, P3, K> {
     chip: Chip<Five<P0, P1, P2, P3, K>>,

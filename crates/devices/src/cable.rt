@@ -9,6 +9,7 @@ use ps2::refusal::Refusal;
 
 #[derive(Drop)]
 pub struct Cable<D> {
+    // there while the cable is pulled, too
     below: D,
     plugged: bool,
 }

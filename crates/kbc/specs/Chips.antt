@@ -1,4 +1,5 @@
--- Chips: the state of a controller above its devices.
+-- Chips: the state of a controller above its devices. (A `Model` of Chip cannot say it: its value's type would name a
+-- member of the bank's bound.)
 --   state_of f c   the state of c, f being the values of its devices
 use Rattle.parts.specs.Held.{held_of}
 use Rattle.rules.specs.Banks.{Kinds, Values}

@@ -49,7 +49,7 @@ pub trait KeyboardController {
         ensures after { state self.new ≡ data_after byte (state self.old) }
         ensures runs { Kept (state self.old) (data_write byte result) (state self.new) };
 
-    // Something that happens to the device of a line.
+    // Something that happens to the device of a line, by its number: one without a device is to be refused.
     fn event(&mut self, line: u8, event: Event<'_>) -> Result<(), Refusal>
         ensures value { result ≡ event_answer line (told event.entry) (state self.old) }
         ensures after { state self.new ≡ event_after line (told event.entry) (state self.old) }

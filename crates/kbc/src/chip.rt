@@ -50,6 +50,7 @@ impl<B: Bank> Chip<B> {
     }
 }
 
+// The law of runs stands on each call, above an exact one that is proved without it.
 impl<B: Bank> KeyboardController for Chip<B> {
     ghost kinds = { B.Bank.kinds };
 

@@ -6,6 +6,7 @@ ghost use Rattle.lanes.specs.Lanes.{lane, untagged, errors, size_answer, fill_an
 use crate::reading::{data_of, is_aux_error, port_of};
 use ps2::refusal::Refusal;
 
+// A port is a number here, since one above 3 is to be refused.
 const LAST_PORT: u8 = 3;
 
 pub const MOST_READINGS: usize = 32_768;

@@ -30,7 +30,7 @@ fn is_set(byte: u8, k: u32) -> bool
     (byte >> k) & 1 == 1
 }
 
-// The port whose device gave the data byte, if one did and the byte is good.
+// The port whose device gave the data byte, if one did and the byte is good: the number that the status holds.
 pub fn port_of(reading: u16) -> Option<u8>
     ensures value { result ≡ port_of reading }
     ensures one_port { OnePort reading }

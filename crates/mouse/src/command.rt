@@ -23,6 +23,7 @@ pub(crate) enum Command {
 
 impl Command {
     // The command of a byte, if one is listed. FFh, the Reset, is told apart before this.
+    // An `Option`, as an error of `TryFrom` would say no more.
     pub(crate) fn of(byte: u8) -> Option<Command>
         ensures { result ≡ command_of byte }
     {

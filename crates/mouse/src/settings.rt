@@ -28,6 +28,7 @@ pub(crate) struct Settings {
     pub(crate) mode: Mode,
     pub(crate) reporting: bool,
     pub(crate) doubled: bool,
+    // the code that a host sets and reads
     pub(crate) resolution: u8,
     pub(crate) rate: u8,
 }

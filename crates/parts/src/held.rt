@@ -11,6 +11,7 @@ pub struct LineRecord {
     held: Option<Entry>,
 }
 
+// Contracts see it through `held_of`: a `Model` of a `Copy` table would need a way back, and a law of eight cases for it.
 #[derive(Clone, Copy)]
 pub struct Lines {
     table: [LineRecord; 6],

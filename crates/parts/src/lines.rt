@@ -25,7 +25,7 @@ impl Port {
         self as u8
     }
 
-    // The port of the two bits that number it.
+    // The port of the two bits that number it: no `TryFrom`, since no two bits are refused.
     pub fn at(bits: u8) -> Port
         ensures { result ≡ port_at bits }
     {
@@ -50,7 +50,7 @@ impl Line {
         }
     }
 
-    // The line above, with 0 after 5.
+    // The line above, with 0 after 5. By cases: on numbers it would need a way back from them.
     pub fn after(self) -> Line
         ensures { result ≡ line_after self }
     {
@@ -71,7 +71,7 @@ impl Line {
         !matches!(self, Line::Aux(Port::P1 | Port::P2 | Port::P3))
     }
 
-    // The line of a number, if it has a device.
+    // The line of a number, if it has a device: no `TryFrom`, since 5 is a line's number too.
     pub fn with_device(number: u8) -> Option<Line>
         ensures { result ≡ device_line number }
     {

@@ -19,7 +19,7 @@ pub enum Gate {
 }
 
 // The command byte (bits 0 and 1 interrupts, 2 System Flag, 4 keyboard disable, 5 AUX disable)
-// and each port's own disable flag.
+// and each port's own disable flag. A host reads all eight bits back, so it stays a byte.
 #[derive(Clone, Copy)]
 pub struct Settings {
     pub mode: Mode,
@@ -52,6 +52,7 @@ impl Settings {
         }
     }
 
+    // Written out beside `disable`: they differ in the operator, which no parameter says more plainly.
     pub fn enable(&mut self, gate: Gate)
         ensures { self.new ≡ enabling gate self.old }
     {

@@ -9,6 +9,7 @@ use std::alloc::AllocError;
 use std::fmt;
 use text::Hex;
 
+// A refusal is one of the things that a line shows, so it is a case here and no `Err`.
 #[derive(Clone, Copy)]
 pub enum Reply {
     Done,

@@ -29,7 +29,8 @@ fn write_refused(text: &mut String, before: usize, refusal: Refusal) -> Result<(
     write_line(text, before + 1, Reply::Refused(refusal))
 }
 
-// The lines of a file from a reader at its start.
+// The lines of a file from a reader at its start. They are numbered by hand, since a reader is no iterator: a refusal
+// leaves it where it was. Nothing is shared with `explain`: of a closure that writes, no proof learns what it wrote.
 fn write_records<C: KeyboardController>(
     text: &mut String,
     controller: &mut C,

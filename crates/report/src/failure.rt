@@ -29,7 +29,7 @@ impl fmt::Display for Failure {
     }
 }
 
-// The same words: a program's report of an error prints this form.
+// The same words, so by hand: a program's report of an error prints this form.
 impl fmt::Debug for Failure {
     fn fmt<W: fmt::Write>(&self, f: &mut fmt::Formatter<W>) -> fmt::Result {
         fmt::Display::fmt(self, f)
@@ -54,7 +54,7 @@ impl From<AllocError> for Failure {
     }
 }
 
-// Text that is made in a `String` fails for want of memory alone.
+// Text that is made in a `String` fails for want of memory alone. These are by hand, since clauses name what they give.
 impl From<fmt::Error> for Failure {
     ghost from_gives = { λ _ r. r ≡ OutOfMemory };
 

@@ -51,7 +51,7 @@ fn is_stroke(bytes: &[u8]) -> bool
     (1..=16).contains(&bytes.len())
 }
 
-// What a payload of a kind says.
+// What a payload of a kind says. The kind stays the format's number: an unknown one and a wrong length are refused alike.
 fn decode(kind: u16, payload: &[u8]) -> Result<Record<'_>, Refusal>
     ensures { plain result ≡ said kind payload.now }
 {

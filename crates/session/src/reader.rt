@@ -9,6 +9,7 @@ use ps2::refusal::Refusal;
 
 pub const LONGEST_FILE: usize = 65_536;
 
+// The bytes left are a slice beside the file, and no place in it: nothing then needs a bound.
 #[derive(Clone, Copy)]
 pub struct Reader<'a> {
     file: &'a [u8],

@@ -21,7 +21,8 @@ impl<B: Bank> Chip<B> {
         self.lines.held(line).is_some() || (self.settings.is_open(line) && self.devices.waits(line))
     }
 
-    // The first line that has something to give, from the arbiter's upward.
+    // The first line that has something to give, from the arbiter's upward. The project asks for a `loop` that yields
+    // it by `break`, so the lines left are counted by hand.
     fn find(&self) -> Option<Line>
         ensures { result ≡ first_of (gives (state_of B.Bank.values self.now)) 6 self.now.next }
     {

@@ -16,6 +16,7 @@ impl Device for Mouse {
         *self = begun(self.variant, false);
     }
 
+    // This and giving are a board's but for the packet: one form for both would need a trait for its two calls.
     fn waits(&self) -> bool {
         self.answer.acknowledges || !self.answer.packet.is_empty()
     }
