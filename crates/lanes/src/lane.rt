@@ -34,7 +34,7 @@ fn count(readings: &[u16], port: u8) -> usize
     }
 }
 
-// The size of a port's lane.
+// The size of a port's lane. (Readings and port stay two parameters: a struct of both would be made for one call.)
 pub fn lane_size(readings: &[u16], port: u8) -> Result<usize, Refusal>
     ensures { result ≡ size_answer readings.now port }
 {

@@ -14,6 +14,7 @@ pub struct LineRecord {
 // Contracts see it through `held_of`: a `Model` of a `Copy` table would need a way back, and a law of eight cases for it.
 #[derive(Clone, Copy)]
 pub struct Lines {
+    // a table of six records, as the project asks; by a line's number
     table: [LineRecord; 6],
 }
 

@@ -24,6 +24,7 @@ pub enum Gate {
 pub struct Settings {
     pub mode: Mode,
     pub command: u8,
+    // by a port's number
     pub disabled: [bool; 4],
 }
 

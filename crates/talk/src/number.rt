@@ -19,7 +19,8 @@ pub(crate) fn byte(text: &[u8]) -> Option<u8>
     Some(16 * nibble(*high)? + nibble(*low)?)
 }
 
-// A number of at most 1000: all above 999 are out of range alike.
+// A number of at most 1000: all above 999 are out of range alike. Read digit by digit, since `parse` takes a plus sign,
+// and a long number is no bad one here.
 #[derive(Clone, Copy)]
 pub(crate) struct Capped {
     n: u16,
