@@ -21,20 +21,20 @@ module _ {K : Kinds} where
   lines_none : (n : ℕ) (s : State K) (is : List Item) (e : Ending) → Ok None ≡ answered_by is e → lines_from n s is e ≡ []
   unfolding lines_from
   lines_none n s [] complete h = refl
-  lines_none n s [] (refused e) h = let z : ◌≡◌ {A = ℕ} 0 1 = cc in absurd (omega arith)
-  lines_none n s (i ∷ is) e h = let z : ◌≡◌ {A = ℕ} 0 1 = cc in absurd (omega arith)
+  lines_none n s [] (refused e) h = cc
+  lines_none n s (i ∷ is) e h = cc
 
   lines_refused : (n : ℕ) (s : State K) (is : List Item) (e : Ending) (f : Refusal) → Err f ≡ answered_by is e → lines_from n s is e ≡ end_line n (refused f)
   unfolding lines_from
-  lines_refused n s [] complete f h = let z : ◌≡◌ {A = ℕ} 0 1 = cc in absurd (omega arith)
+  lines_refused n s [] complete f h = cc
   lines_refused n s [] (refused e) f h = let same : e ≡ f = cc in ap (λ e. end_line n (refused e)) same
-  lines_refused n s (i ∷ is) e f h = let z : ◌≡◌ {A = ℕ} 0 1 = cc in absurd (omega arith)
+  lines_refused n s (i ∷ is) e f h = cc
 
   lines_some : (n : ℕ) (s : State K) (is : List Item) (e : Ending) (j : Item) → Ok (Some j) ≡ answered_by is e →
       lines_from n s is e ≡ line_text (n + 1) (reply_to j s) ++ lines_from (n + 1) (played_to j s) (tail is) e
   unfolding lines_from
-  lines_some n s [] complete j h = let z : ◌≡◌ {A = ℕ} 0 1 = cc in absurd (omega arith)
-  lines_some n s [] (refused e) j h = let z : ◌≡◌ {A = ℕ} 0 1 = cc in absurd (omega arith)
+  lines_some n s [] complete j h = cc
+  lines_some n s [] (refused e) j h = cc
   lines_some n s (i ∷ is) e j h = let same : i ≡ j = cc in ap (λ i. line_text (n + 1) (reply_to i s) ++ lines_from (n + 1) (played_to i s) is e) same
 
   -- what is written so far, and the lines of what is left, are the whole text

@@ -25,19 +25,19 @@ refused_lines (Some f) file e h = ap (λ e. end_line 0 0 (refused e)) h
 lines_none : (n at : ℕ) (is : List Item) (e : Ending) → Ok None ≡ answered_by is e → lines n at is e ≡ end_line n at complete
 unfolding lines
 lines_none n at [] complete h = refl
-lines_none n at [] (refused e) h = let z : ◌≡◌ {A = ℕ} 0 1 = cc in absurd (omega arith)
-lines_none n at (i ∷ is) e h = let z : ◌≡◌ {A = ℕ} 0 1 = cc in absurd (omega arith)
+lines_none n at [] (refused e) h = cc
+lines_none n at (i ∷ is) e h = cc
 
 lines_refused : (n at : ℕ) (is : List Item) (e : Ending) (f : Refusal) → Err f ≡ answered_by is e → lines n at is e ≡ end_line 0 at (refused f)
 unfolding lines
-lines_refused n at [] complete f h = let z : ◌≡◌ {A = ℕ} 0 1 = cc in absurd (omega arith)
+lines_refused n at [] complete f h = cc
 lines_refused n at [] (refused e) f h = let same : e ≡ f = cc in ap (λ e. end_line 0 at (refused e)) same
-lines_refused n at (i ∷ is) e f h = let z : ◌≡◌ {A = ℕ} 0 1 = cc in absurd (omega arith)
+lines_refused n at (i ∷ is) e f h = cc
 
 lines_some : (n at : ℕ) (is : List Item) (e : Ending) (j : Item) → Ok (Some j) ≡ answered_by is e → lines n at is e ≡ line (n + 1) at j ++ lines (n + 1) (at + length (bytes_of j)) (tail is) e
 unfolding lines
-lines_some n at [] complete j h = let z : ◌≡◌ {A = ℕ} 0 1 = cc in absurd (omega arith)
-lines_some n at [] (refused e) j h = let z : ◌≡◌ {A = ℕ} 0 1 = cc in absurd (omega arith)
+lines_some n at [] complete j h = cc
+lines_some n at [] (refused e) j h = cc
 lines_some n at (i ∷ is) e j h = let same : i ≡ j = cc in ap (λ i. line (n + 1) at i ++ lines (n + 1) (at + length (bytes_of i)) is e) same
 
 module _ {goal : List ℕ} {r : Reader} {number : ℕ} {text : List ℕ} (so : Sofar goal r number text) where

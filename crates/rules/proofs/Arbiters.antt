@@ -1,12 +1,14 @@
 -- How far the arbiter is from a port, and that a move brings it nearer.
 use Rattle.std.proofs.Common.{◌≡◌, ℕ, zero, suc, ◌+◌, ◌-◌, ◌%◌, ◌<◌, ◌≤◌, Bool, true, false, eqb, ltb, Some, None, Option, sym, refl, ap, ◌∙◌, sub-one, arith}
+use Rattle.std.proofs.lemmas.Option.{none-some}
+use Rattle.std.proofs.lemmas.Bool.{true≢false}
 use Rattle.parts.specs.declared.lines.Line.{Line}
 use Rattle.parts.specs.declared.lines.Line.TheVariants.{Aux, Keyboard, Controller}
 use Rattle.parts.specs.declared.lines.Port.{Port}
 use Rattle.parts.specs.declared.lines.Port.TheVariants.{P0, P1, P2, P3}
 use Rattle.parts.specs.Lines.{port_number, line_number, line_after, is_port}
 use Rattle.rules.specs.Arbiter.{first_of}
-use Rattle.rules.proofs.Basics.{truths_apart, none_some, some_is, by_test, port_line, line_few, port_few}
+use Rattle.rules.proofs.Basics.{by_test, port_line, line_few, port_few, some_is}
 
 -- The search, line by line
 -- ------------------------
@@ -29,7 +31,7 @@ module _ (has : Line → Bool) where
   -- the line that is found has something
   pub first_has : (n : ℕ) (l m : Line) → first_of has n l ≡ Some m → has m ≡ true
   unfolding first_of
-  first_has zero l m e = absurd (none_some m e)
+  first_has zero l m e = absurd (none-some m e)
   first_has (suc n) l m e =
       by_test (has l) (λ t. let same : l ≡ m = some_is l m (sym (rw t) ∙ e) in ap has (sym same) ∙ t) (λ t. first_has n (line_after l) m (sym (rw t) ∙ e))
 
@@ -79,7 +81,7 @@ module _ (has : Line → Bool) (p : Port) (ready : has (Aux p) ≡ true) where
 
   -- a line that has nothing is not the port's
   not_port : (l : Line) → has l ≡ false → is_port p (line_number l) ≡ false
-  not_port l e = by_test (is_port p (line_number l)) (λ t. absurd (truths_apart (sym ready ∙ ap has (sym (port_line p l t)) ∙ e))) (λ o. o)
+  not_port l e = by_test (is_port p (line_number l)) (λ t. absurd (true≢false (sym ready ∙ ap has (sym (port_line p l t)) ∙ e))) (λ o. o)
 
   pub finds : (n : ℕ) (l : Line) → far l p < n → Found has p l (first_of has n l)
   unfolding first_of

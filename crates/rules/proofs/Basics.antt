@@ -1,5 +1,6 @@
 -- Ports and lines by their numbers, and a port as a cable.
 use Rattle.std.proofs.Common.{◌≡◌, ℕ, ◌<◌, ◌≤◌, Bool, true, false, cond, T, eqb, leb, ◌⊎◌, List, [], ◌∷◌, ◌++◌, Some, None, Option, sym, refl, ap, ◌∙◌, subst, inl, inr, arith, eqb→eq}
+use Rattle.std.proofs.lemmas.Bool.{true≢false, eqb-true}
 use Rattle.ps2.specs.declared.entry.Entry.{Entry}
 use Rattle.ps2.specs.Kinds.{Kind}
 use Rattle.parts.specs.declared.lines.Line.{Line}
@@ -15,29 +16,20 @@ use Rattle.rules.specs.Status.{present}
 use Rattle.rules.specs.LoneCable.{Cable, Step, listed, play, play_all}
 use Rattle.rules.specs.Law.{Among}
 
-pub truths_apart : true ≡ false → ⊥
-truths_apart e = let z : ◌≡◌ {A = ℕ} 0 1 = cc in omega arith
-
 pub modes_apart : Legacy ≡ Multiplexed → ⊥
 modes_apart e = let z : ◌≡◌ {A = ℕ} 0 1 = cc in omega arith
-
-pub none_some : {A : Type 0} (a : A) → ◌≡◌ {A = Option A} None (Some a) → ⊥
-none_some a e = let z : ◌≡◌ {A = ℕ} 0 1 = cc in omega arith
 
 pub some_is : {A : Type 0} (a b : A) → ◌≡◌ {A = Option A} (Some a) (Some b) → a ≡ b
 some_is a b e = cc
 
 pub not_present : {A : Type 0} (o : Option A) → present o ≡ false → o ≡ None
 not_present None e = refl
-not_present (Some a) e = absurd (truths_apart e)
+not_present (Some a) e = absurd (true≢false e)
 
 -- by the two cases of a test
 pub by_test : {A : Type 0} (b : Bool) → (b ≡ true → A) → (b ≡ false → A) → A
 by_test true f g = f refl
 by_test false f g = g refl
-
-pub eqb_is : (m n : ℕ) → eqb m n ≡ true → m ≡ n
-eqb_is m n e = eqb→eq m n (subst T (sym e) tt)
 
 pub same_port : (p : Port) → is_port p (port_number p) ≡ true
 same_port P0 = refl
@@ -65,7 +57,7 @@ line_back Controller = refl
 
 -- a line with the port's number is the port's
 pub port_line : (p : Port) (l : Line) → is_port p (line_number l) ≡ true → l ≡ Aux p
-port_line p l e = sym (line_back l) ∙ ap line_of (eqb_is _ _ e) ∙ line_back (Aux p)
+port_line p l e = sym (line_back l) ∙ ap line_of (eqb-true _ _ e) ∙ line_back (Aux p)
 
 pub line_few : (l : Line) → line_number l < 6
 line_few (Aux P0) = omega arith

@@ -1,5 +1,6 @@
 -- What carrying out a host byte does to a port.
 use Rattle.std.proofs.Common.{◌≡◌, ℕ, ◌-◌, ◌≤◌, Bool, true, false, cond, eqb, ◌⊎◌, List, [], ◌∷◌, Some, None, Option, sym, refl, ap, ◌∙◌, subst, inl, inr, arith}
+use Rattle.std.proofs.lemmas.Bool.{true≢false, eqb-true}
 use Rattle.ps2.specs.declared.entry.Entry.{Entry}
 use Rattle.ps2.specs.declared.entry.Entry.TheVariants.{Byte, Timeout}
 use Rattle.ps2.specs.Kinds.{Kind}
@@ -29,7 +30,7 @@ use Rattle.rules.specs.Hosting.{obey, switch, deliver, worked, full_at, blocked}
 use Rattle.rules.specs.LoneCable.{Cable, Step, force, play_all, sent_if}
 use Rattle.rules.specs.LoneCable
 use Rattle.rules.specs.Histories.{Written, command, datum, Role, sent, argument, elsewhere, command_role, role, argued, forced, data_steps, byte_steps}
-use Rattle.rules.proofs.Basics.{truths_apart, modes_apart, not_present, by_test, eqb_is, same_port, other_port, port_line, port_number_at, held_at_put, value_at, ask_at, cable_of}
+use Rattle.rules.proofs.Basics.{modes_apart, not_present, by_test, same_port, other_port, port_line, port_number_at, held_at_put, value_at, ask_at, cable_of}
 use Rattle.rules.proofs.Sequences.{place_of, is_enter, enters_is, entered_place}
 
 -- What is awaited, from the byte carried out just before
@@ -53,7 +54,7 @@ is_aux_send (Some (Route p)) = false
 
 -- at k, and at every other number
 at_number : (P : ℕ → Type 0) (k b : ℕ) → P k → (eqb b k ≡ false → P b) → P b
-at_number P k b at-k not-k = by_test (eqb b k) (λ e. subst P (sym (eqb_is b k e)) at-k) not-k
+at_number P k b at-k not-k = by_test (eqb b k) (λ e. subst P (sym (eqb-true b k e)) at-k) not-k
 
 abbrev role_by : Option Command → Role → Role
 role_by None r = r
@@ -217,7 +218,7 @@ module _ {K : Kinds} where
       let f : forced args b ≡ cond (is_enter (outcome q b)) 0x11 b = ap (λ x. cond x 0x11 b) (sym (enters_is args b) ∙ ap (λ q. is_enter (outcome q b)) (sym e)) in
       let w = switches (outcome q b) (forced args b) b (with_dialog (with_place (leads q b) t.dialog) t) f m in
       record { cable = w.cable; place = w.place ∙ ap (λ q. leads q b) e; output = w.output; next = w.next }
-  delivers (Some AuxSend) args b t n e m = absurd (truths_apart n)
+  delivers (Some AuxSend) args b t n e m = absurd (true≢false n)
   delivers (Some (Route r)) args b t n e m = placed e (sends (Aux r) (takes_at t.devices (Aux r) b) b t (λ p. cond (is_port p (port_number r)) (LoneCable.send b ∷ []) []) (λ p hs. send_at p (Aux r) b t hs (is_port p (port_number r)) refl))
 
   -- Working on a host byte.

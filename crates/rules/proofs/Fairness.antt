@@ -1,5 +1,6 @@
 -- Seven bytes read in a row include one of each port that always had something to give.
 use Rattle.std.proofs.Common.{◌≡◌, ℕ, suc, ◌+◌, ◌≤◌, Bool, true, false, cond, ◌&&◌, ◌||◌, List, [], ◌∷◌, Some, None, Ok, Err, Option, Result, sym, refl, ap, ◌∙◌, subst, arith}
+use Rattle.std.proofs.lemmas.Bool.{true≢false, and_parts, or_parts}
 use Rattle.ps2.specs.declared.entry.Entry.{Entry}
 use Rattle.ps2.specs.declared.refusal.Refusal.{Refusal}
 use Rattle.ps2.specs.Kinds.{nonempty, first}
@@ -25,7 +26,7 @@ use Rattle.rules.specs.Arbiter.{first_of}
 use Rattle.rules.specs.Turns.{changed, waits_at, first_at, gives, taken_from, taken_to, shown_as, moved, fill_line_by, filled, carried_by, carried_to, carried_for, hosted_for, carried, hosted, filled_if}
 use Rattle.rules.specs.Calls.{became, event_to, read_of, input_of, command_answer, data_answer, event_answer}
 use Rattle.rules.specs.Histories.{Call, status_read, data_read, command_write, data_write, happens, turn, History, new, ◌▹◌, ◌⊕◌, after, next, Answers, Truthful, last_write, arguments, entering, leaving, opens, closes, is_read, read_count, Steady, ready_at, Ready, includes}
-use Rattle.rules.proofs.Basics.{truths_apart, modes_apart, by_test}
+use Rattle.rules.proofs.Basics.{modes_apart, by_test}
 use Rattle.rules.proofs.Seeing.{tag_at}
 use Rattle.rules.proofs.Carrying.{works}
 use Rattle.rules.proofs.Filling.{keeps}
@@ -45,12 +46,8 @@ pub record Gives (o : Option Entry) : Type 0 where
   pub is : o ≡ Some entry
 
 first_gives : (es : List Entry) → nonempty es ≡ true → Gives (first es)
-first_gives [] e = absurd (truths_apart (sym e))
+first_gives [] e = absurd (true≢false (sym e))
 first_gives (x ∷ xs) e = record { entry = x; is = refl }
-
-second : (x y : Bool) → x && y ≡ true → y ≡ true
-second true y e = e
-second false y e = absurd (truths_apart (sym e))
 
 module _ {K : Kinds} where
   waits_first : (v : Values K) (l : Line) → waits_at v l ≡ true → Gives (first_at v l)
@@ -59,11 +56,11 @@ module _ {K : Kinds} where
   waits_first v (Aux P2) e = first_gives _ e
   waits_first v (Aux P3) e = first_gives _ e
   waits_first v Keyboard e = first_gives _ e
-  waits_first v Controller e = absurd (truths_apart (sym e))
+  waits_first v Controller e = absurd (true≢false (sym e))
 
   taken_gives : (h : Option Entry) (l : Line) (t : State K) → present h || (line_open t.settings l && waits_at t.devices l) ≡ true → Gives (taken_from h t l)
   taken_gives (Some e) l t g = record { entry = e; is = refl }
-  taken_gives None l t g = waits_first t.devices l (second (line_open t.settings l) _ g)
+  taken_gives None l t g = waits_first t.devices l (and_parts (line_open t.settings l) _ g).1
 
   pub gives_taken : (l : Line) (t : State K) → gives t l ≡ true → Gives (taken_from (held_at t.held l) t l)
   gives_taken l t g = taken_gives (held_at t.held l) l t g
@@ -131,7 +128,7 @@ module _ {K : Kinds} (v : Values K) (p : Port) (h : History) (inv : Inv v h (aft
 
   changed_keeps : (w : HostByte) → s.dialog.input ≡ Some w → (m k : Mode) → mode_of s ≡ m → mode_of (carry_out w s) ≡ k → TurnKeeps (changed m k) (carry_out w s)
   changed_keeps w i Legacy k e f st g = absurd (modes_apart (sym e ∙ so.mode))
-  changed_keeps w i Multiplexed Legacy e f st g = absurd (truths_apart st)
+  changed_keeps w i Multiplexed Legacy e f st g = absurd (true≢false st)
   changed_keeps w i Multiplexed Multiplexed e f st g =
       let k = works w (last_write h) (arguments h) s (inv.wrote w i) (inv.fits e) (inv.placed e) f in
       fill_keeps (carry_out w s) f k.output k.next g
@@ -155,15 +152,11 @@ module _ {K : Kinds} (v : Values K) (p : Port) (h : History) (inv : Inv v h (aft
   keeps_near (happens m x a) e r = λ k i. became_same (event_answer m x s) (with_devices (event_to (device_line m) s.devices x) s) refl refl refl
   keeps_near (turn c m) e r = λ k i. turn_keeps (ap (λ q. entering q.0 || leaving q.0) (sym e) ∙ k) r
 
-or_false : (a b : Bool) → a || b ≡ false → (a ≡ false) × (b ≡ false)
-or_false true b e = absurd (truths_apart e)
-or_false false b e = (refl, e)
-
 module _ {K : Kinds} (v : Values K) (p : Port) where
   nears : (g w : History) → Truthful v (g ⊕ w) → mode_of (after v g) ≡ Multiplexed → Steady w → Ready v p g w → includes v p g w ≡ false → Nears p (read_count w) (after v (g ⊕ w))
   nears g new t m st r i = record { mode = m; few = omega arith; bound = bound_start p (after v g).output (after v g).next }
   nears g (w ▹ x) t m st r i =
-      let no = or_false (includes v p g w) _ i in
+      let no = or_parts (includes v p g w) _ i in
       let before = nears g w t.0 m st.0 r.0 no.0 in
       keeps_near v p (g ⊕ w) (holds v (g ⊕ w) t.0) (read_count w) before x t.1 r.1 st.1 no.1
 

@@ -1,5 +1,7 @@
 -- The port's lone cable follows the port, whatever is called.
 use Rattle.std.proofs.Common.{◌≡◌, ℕ, ◌≤◌, Bool, true, false, cond, not, ◌||◌, eqb, leb, ◌⊎◌, List, [], ◌∷◌, ◌++◌, map, Some, None, Ok, Err, Option, Result, sym, refl, ap, ◌∙◌, subst, ap₂, inl, inr, append_assoc, append-nil, arith}
+use Rattle.std.proofs.lemmas.Option.{none-some}
+use Rattle.std.proofs.lemmas.Bool.{eqb-true}
 use mathlib.Core.List.{map-append}
 use Rattle.ps2.specs.declared.entry.Entry.{Entry}
 use Rattle.ps2.specs.declared.refusal.Refusal.{Refusal}
@@ -30,7 +32,7 @@ use Rattle.rules.specs.Calls.{became, read_of, input_of, room_at, happened_at, e
 use Rattle.rules.specs.LoneCable.{TakenAt, occur, occurs_if, play_all}
 use Rattle.rules.specs.Histories.{Call, status_read, data_read, command_write, data_write, happens, turn, History, new, ◌▹◌, after, next, Answers, Truthful, written, last_write, carries_out, carried_at, last_carried, role, argued, arguments, byte_steps, host_steps, take_steps, steps_at, entering, leaving, opens, closes, opening, steps, seen, read_ok, read_at, reads, output_of, standing, starts, lone}
 use Rattle.rules.specs.Law.{Spans, Among, Turned}
-use Rattle.rules.proofs.Basics.{modes_apart, none_some, by_test, eqb_is, port_line, port_number_at, ask_at, cable_of, play_append, among_append}
+use Rattle.rules.proofs.Basics.{modes_apart, by_test, port_line, port_number_at, ask_at, cable_of, play_append, among_append}
 use Rattle.rules.proofs.Seeing.{waiting_is}
 use Rattle.rules.proofs.Sequences.{place_of}
 use Rattle.rules.proofs.Carrying.{role_of, is_aux_send, decoded_role, cable_parts, value_other, value_same, Wrote, wrote_role, works, fits, free, legacy_not, entered}
@@ -59,7 +61,7 @@ number_by (Some l) n = line_number l
 number_back : (n : ℕ) → number_by (device_line n) n ≡ n
 number_back n =
     by_test (leb n 3) (λ t. let few : n ≤ 3 = grind arith in rw t (port_number_at n few)) λ t.
-    by_test (eqb n 4) (λ u. rw (t, u) (sym (eqb_is n 4 u))) λ u. rw (t, u)
+    by_test (eqb n 4) (λ u. rw (t, u) (sym (eqb-true n 4 u))) λ u. rw (t, u)
 
 event_line : (n : ℕ) (l : Line) → device_line n ≡ Some l → line_number l ≡ n
 event_line n l e = sym (ap (λ o. number_by o n) e) ∙ number_back n
@@ -163,7 +165,7 @@ module _ {K : Kinds} (v : Values K) where
 
     command_put : (b : ℕ) (c : Option Command) → decoded s.dialog.awaited b ≡ c → (r : Result (Unit {0}) Refusal) → Ok tt ≡ refusing (not (present c)) UnknownCommand r →
         Inv v (h ▹ command_write b (Ok tt)) (with_input (input_of c) s)
-    command_put b None e r ok = let z : ◌≡◌ {A = ℕ} 0 1 = cc in absurd (omega arith)
+    command_put b None e r ok = cc
     command_put b (Some c) e r ok =
         put_next (command_write b (Ok tt)) (host.Command c) refl (λ p. refl) (λ p. refl) (record { byte = b; is = refl; tells = decoded_role s.dialog.awaited b c e })
 
@@ -181,8 +183,8 @@ module _ {K : Kinds} (v : Values K) where
       where
         go : (x y : Bool) → Ok tt ≡ refusing (not x) FieldOutOfRange (room_answer y) → y ≡ true
         go x true z = refl
-        go true false z = let z : ◌≡◌ {A = ℕ} 0 1 = cc in absurd (omega arith)
-        go false false z = let z : ◌≡◌ {A = ℕ} 0 1 = cc in absurd (omega arith)
+        go true false z = cc
+        go false false z = cc
 
     -- it reaches the device of its line
     event_leads : (l : Line) (e : Happening) (p : Port) (x : Bool) (hs : List Entry) → is_port p (line_number l) ≡ x → room_at s.devices l e ≡ true →
@@ -195,7 +197,7 @@ module _ {K : Kinds} (v : Values K) where
 
     event_moves : (n : ℕ) (e : Happening) (o : Option Line) → device_line n ≡ o → Ok tt ≡ event_at o s.devices e → (p : Port) →
         Moves p h (happens n e (Ok tt)) (with_devices (event_to o s.devices e) s)
-    event_moves n e None is ok p = let z : ◌≡◌ {A = ℕ} 0 1 = cc in absurd (omega arith)
+    event_moves n e None is ok p = cc
     event_moves n e (Some l) is ok p =
         let u = with_devices (happened_at s.devices l e) s in
         let here : is_port p (line_number l) ≡ is_port p n = ap (is_port p) (event_line n l is) in
@@ -283,7 +285,7 @@ module _ {K : Kinds} (v : Values K) where
           record {
             opens_not = refl;
             closes_not = refl;
-            wrote = λ b e. absurd (none_some b e);
+            wrote = λ b e. absurd (none-some b e);
             expects = wrote_role w (last_write h) wrote;
             fits = λ e. fits w s e;
             placed = λ e. k.place ∙ ap (λ a. place_of (argued a (last_write h) (arguments h))) inv.expects;
@@ -298,7 +300,7 @@ module _ {K : Kinds} (v : Values K) where
           record {
             opens_not = refl;
             closes_not = refl;
-            wrote = λ b e. absurd (none_some b e);
+            wrote = λ b e. absurd (none-some b e);
             expects = wrote_role w (last_write h) wrote;
             fits = λ e. legacy_not u l e;
             placed = λ e. legacy_not u l e;
@@ -311,7 +313,7 @@ module _ {K : Kinds} (v : Values K) where
       -- the mode became Multiplexed: a span opens here
       opened_next : mode_of s ≡ Legacy → mode_of u ≡ Multiplexed → turn_after s ≡ u → Inv v (h ▹ turn NowMultiplexed None) u
       opened_next l m e = record {
-        wrote = λ b q. absurd (none_some b q);
+        wrote = λ b q. absurd (none-some b q);
         expects = wrote_role w (last_write h) wrote;
         fits = λ q. fits w s q;
         placed = λ q. entered w (last_write h) (arguments h) s wrote l m ∙ ap (λ a. place_of (argued a (last_write h) (arguments h))) inv.expects;
@@ -323,7 +325,7 @@ module _ {K : Kinds} (v : Values K) where
       closed_next : mode_of u ≡ Legacy → Inv v (h ▹ turn NowLegacy None) u
       closed_next l =
           record {
-            wrote = λ b e. absurd (none_some b e);
+            wrote = λ b e. absurd (none-some b e);
             expects = wrote_role w (last_write h) wrote;
             fits = λ e. legacy_not u l e;
             placed = λ e. legacy_not u l e;
@@ -392,7 +394,7 @@ module _ {K : Kinds} (v : Values K) where
   -- and a new controller has it
   pub holds : (h : History) → Truthful v h → Inv v h (after v h)
   holds new t = record {
-    wrote = λ w e. absurd (none_some w e);
+    wrote = λ w e. absurd (none-some w e);
     expects = refl;
     fits = λ e. absurd (modes_apart e);
     placed = λ e. absurd (modes_apart e);

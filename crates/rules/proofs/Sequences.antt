@@ -1,12 +1,13 @@
 -- The place in the sequence, from the arguments alone.
 use Rattle.std.proofs.Common.{◌≡◌, ℕ, Bool, true, false, ◌&&◌, eqb, List, [], ◌∷◌, Some, None, Option, sym, refl, ap, ◌∙◌, arith}
+use Rattle.std.proofs.Math.Bool.{and_assoc}
+use Rattle.std.proofs.lemmas.Bool.{eqb-true, and_parts}
 use Rattle.parts.specs.declared.dialog.Place.{Place}
 use Rattle.parts.specs.declared.dialog.Place.TheVariants.{Zero, One, Two}
 use Rattle.parts.specs.declared.settings.Mode.{Mode}
 use Rattle.parts.specs.declared.settings.Mode.TheVariants.{Legacy, Multiplexed}
 use Rattle.parts.specs.Sequence.{is_one, is_two, leads, outcome}
 use Rattle.rules.specs.Histories.{activates}
-use Rattle.rules.proofs.Basics.{truths_apart, eqb_is}
 
 abbrev pub place_of : List ℕ → Place
 place_of [] = Zero
@@ -40,19 +41,11 @@ enters_is (x ∷ []) b = enter_at (leads Zero x) b ∙ ap (λ t. t && eqb b 0xa4
 enters_is (x ∷ (y ∷ earlier)) b =
     let q = place_of earlier in
     enter_at (leads (leads q y) x) b ∙ ap (λ t. t && eqb b 0xa4) (two_at (leads q y) x ∙ ap (λ t. t && eqb x 0x56) (one_at q y)) ∙ and_assoc (eqb y 0xf0) (eqb x 0x56) (eqb b 0xa4)
-  where
-    and_assoc : (t u w : Bool) → (t && u) && w ≡ t && (u && w)
-    and_assoc true u w = refl
-    and_assoc false u w = refl
 
 enter_byte : (q : Place) (b : ℕ) → outcome q b ≡ Some Multiplexed → b ≡ 0xa4
 enter_byte q b e =
     let t : is_two q && eqb b 0xa4 ≡ true = sym (enter_at q b) ∙ ap is_enter e in
-    eqb_is b 0xa4 (second (is_two q) (eqb b 0xa4) t)
-  where
-    second : (x y : Bool) → x && y ≡ true → y ≡ true
-    second true y e = e
-    second false y e = absurd (truths_apart (sym e))
+    eqb-true b 0xa4 (and_parts (is_two q) (eqb b 0xa4) t).1
 
 -- behind it the place is the same, whatever it was before
 pub entered_place : (q r : Place) (b : ℕ) → outcome q b ≡ Some Multiplexed → leads q b ≡ leads r b

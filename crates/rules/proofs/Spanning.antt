@@ -1,5 +1,6 @@
 -- The mode, read from the answers: the controller multiplexes exactly where a span is open.
 use Rattle.std.proofs.Common.{◌≡◌, Bool, true, false, ◌||◌, Some, None, Ok, Err, Option, Result, sym, refl, ap, ◌∙◌, subst}
+use Rattle.std.proofs.lemmas.Bool.{true≢false}
 use Rattle.ps2.specs.declared.refusal.Refusal.{Refusal}
 use Rattle.parts.specs.declared.settings.Mode.{Mode}
 use Rattle.parts.specs.declared.settings.Mode.TheVariants.{Legacy, Multiplexed}
@@ -13,7 +14,6 @@ use Rattle.rules.specs.Turns.{changed, carried_by, carried_to, carried_for, host
 use Rattle.rules.specs.Calls.{became, read_answer, command_answer, data_answer, event_answer}
 use Rattle.rules.specs.Histories.{Call, status_read, data_read, command_write, data_write, happens, turn, History, new, ◌▹◌, ◌⊕◌, after, next, Answers, Truthful, carried_at, entering, leaving, opening, since, Steady}
 use Rattle.rules.specs.Law.{Began, Spans}
-use Rattle.rules.proofs.Basics.{truths_apart}
 use Rattle.rules.proofs.Filling.{keeps}
 
 -- the mode after an answer
@@ -59,15 +59,15 @@ steady_mode : (c : Carried) (m : Mode) → entering c || leaving c ≡ false →
 steady_mode NoByte m e = refl
 steady_mode Stays m e = refl
 steady_mode CarriedOut m e = refl
-steady_mode NowMultiplexed m e = absurd (truths_apart e)
-steady_mode NowLegacy m e = absurd (truths_apart e)
+steady_mode NowMultiplexed m e = absurd (true≢false e)
+steady_mode NowLegacy m e = absurd (true≢false e)
 
 opening_mode : (c : Carried) (m : Mode) → entering c ≡ true → mode_by c m ≡ Multiplexed
-opening_mode NoByte m e = absurd (truths_apart (sym e))
-opening_mode Stays m e = absurd (truths_apart (sym e))
-opening_mode CarriedOut m e = absurd (truths_apart (sym e))
+opening_mode NoByte m e = absurd (true≢false (sym e))
+opening_mode Stays m e = absurd (true≢false (sym e))
+opening_mode CarriedOut m e = absurd (true≢false (sym e))
 opening_mode NowMultiplexed m e = refl
-opening_mode NowLegacy m e = absurd (truths_apart (sym e))
+opening_mode NowLegacy m e = absurd (true≢false (sym e))
 
 module _ {K : Kinds} (v : Values K) where
   began_mode : (h : History) → Truthful v h → Began h → mode_of (after v h) ≡ Multiplexed

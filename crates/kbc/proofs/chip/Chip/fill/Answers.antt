@@ -1,8 +1,8 @@
 use Rattle.std.proofs.Common.{◌≡◌, Some, None, sym, ◌∙◌}
+use Rattle.std.proofs.lemmas.Option.{none-some}
 use Rattle.parts.specs.Held.{held_at}
 use Rattle.rules.specs.Arbiter.{first_of}
 use Rattle.rules.specs.Turns.{gives, taken_from}
-use Rattle.rules.proofs.Basics.{none_some}
 use Rattle.rules.proofs.Arbiters.{first_has}
 use Rattle.rules.proofs.Fairness.{gives_taken}
 use Rattle.kbc.specs.Chips.{state_of}
@@ -16,4 +16,4 @@ returns-in_err-entry-clause-value g c =
     let found : first_of (gives s) 6 s.next ≡ Some l = sym c.find.ensures ∙ c.in_ok-line.was in
     let nothing : taken_from (held_at s.held l) s l ≡ None = sym c.take.ensures.value ∙ c.in_err-entry.was in
     let given = gives_taken l s (first_has (gives s) 6 s.next l found) in
-    absurd (none_some given.entry (sym nothing ∙ given.is))
+    absurd (none-some given.entry (sym nothing ∙ given.is))
