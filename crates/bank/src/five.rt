@@ -9,7 +9,8 @@ use ps2::entry::Entry;
 use ps2::event::Event;
 use ps2::refusal::Refusal;
 
-// Each call has a match of its own: the five types differ, and a `dyn` of one would have to be handed out.
+// Each call has a match of its own: the five types differ, and the gate refuses a `dyn` that is
+// handed out.
 #[derive(Drop)]
 pub struct Five<P0, P1, P2, P3, K> {
     pub port0: P0,

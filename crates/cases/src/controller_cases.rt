@@ -26,7 +26,7 @@ fn silents() -> Controller<Silent, Silent, Silent, Silent, Silent> {
     Controller::new(Silent, Silent, Silent, Silent, Silent)
 }
 
-// Writes a command and answers what became of it.
+// Writes a command and answers what became of it. (Two lines, and two for a data byte: no closure for the write.)
 fn command<C: KeyboardController>(
     rt: &impl Abort,
     controller: &mut C,
@@ -139,7 +139,7 @@ fn command_table(rt: HostRuntime) -> Result<(), Fail> {
     for byte in 0..=255 {
         let mut controller = boards();
         let answer = controller.write_command(byte);
-        if byte >= 0x90 && byte <= 0x93 {
+        if (0x90..=0x93).contains(&byte) {
             assert_eq!(rt; answer, Err(Refusal::PrefixInLegacy));
         } else if LISTED.contains(&byte) {
             assert_eq!(rt; answer, Ok(()));

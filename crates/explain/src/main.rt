@@ -2,16 +2,14 @@
 #![tactic(auto)]
 
 use report::explain::explain;
-use session::reader::LONGEST_FILE;
+use session::reader::MOST_READ;
 use std::io::Read;
 
-// One byte more than is accepted, so that too long a file is seen to be too long.
-const MOST_BYTES: u64 = LONGEST_FILE as u64 + 1;
-
-// As in `replay` but for one call: a function of both would need a closure and a contract for three lines.
+// As in `replay` but for one call, and as `play` in `sessions` but for a file: a function of them would need a closure
+// and a contract for three lines.
 fn run(rt: &HostRuntime) -> anyhow::Result<()> {
     let mut file = Vec::new(rt.alloc());
-    rt.stdin().take(MOST_BYTES).read_to_end(&mut file)?;
+    rt.stdin().take(MOST_READ).read_to_end(&mut file)?;
     rt.print(explain(rt.alloc(), file.as_slice())?)?;
     Ok(())
 }

@@ -24,6 +24,7 @@ fn is_of(reading: u16, port: u8) -> bool
     port_of(reading) == Some(port)
 }
 
+// By recursion, as the project asks.
 #[tactic(auto, using(crate::proofs::Laws::size_first, crate::proofs::Laws::lane_short))]
 fn count(readings: &[u16], port: u8) -> usize
     ensures { result ≡ length (lane port readings.now) }

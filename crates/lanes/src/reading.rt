@@ -30,7 +30,8 @@ fn is_set(byte: u8, k: u32) -> bool
     (byte >> k) & 1 == 1
 }
 
-// The port whose device gave the data byte, if one did and the byte is good: the number that the status holds.
+// The port whose device gave the data byte, if one did and the byte is good. A number, as recordings and their
+// readers have it.
 pub fn port_of(reading: u16) -> Option<u8>
     ensures value { result ≡ port_of reading }
     ensures one_port { OnePort reading }
@@ -39,11 +40,7 @@ pub fn port_of(reading: u16) -> Option<u8>
     let full = is_set(status, OUTPUT_FULL);
     let aux = is_set(status, AUX);
     let error = is_set(status, ERROR);
-    if full && aux && !error {
-        Some(status >> 6)
-    } else {
-        None
-    }
+    (full && aux && !error).then_some(status >> 6)
 }
 
 // Whether OBF, AUX and Error are all set: a fault in Multiplexed mode, or any AUX byte in Legacy mode.

@@ -2,7 +2,8 @@
 ghost use Rattle.std.specs.Prelude.{◌≡◌};
 ghost use Rattle.mouse.specs.Counters.{axis_moved, wheel_moved};
 
-// A counter from -255 to 255. Where it would pass, its flag is set, and it stays until it is reset.
+// A counter from -255 to 255. Where it would pass, its flag is set, and it stays until it is reset: a packet shows both,
+// so the flag stands beside the count.
 #[derive(Clone, Copy)]
 pub(crate) struct Axis {
     pub(crate) count: i16,

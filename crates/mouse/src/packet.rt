@@ -1,5 +1,5 @@
 // Up to four bytes that go to the host together. Giving ends at the empty packet, so that is a case here
-// and no `None`; and with five sizes no length stands beside the bytes.
+// and no `None`; and with five sizes no length stands beside the bytes. (The kit's `ArrayVec` is not `Copy`, as an answer is.)
 ghost use Rattle.std.specs.Prelude.{◌≡◌, not};
 ghost use Rattle.ps2.specs.Kinds.{nonempty, first};
 ghost use Rattle.mouse.specs.Packets.{bytes_of, behind, or_else};

@@ -28,7 +28,7 @@ pub(crate) struct Settings {
     pub(crate) mode: Mode,
     pub(crate) reporting: bool,
     pub(crate) doubled: bool,
-    // the code that a host sets and reads
+    // the code that a host sets and reads, 0 to 3; and the rate, one of seven: numbers that stand for themselves
     pub(crate) resolution: u8,
     pub(crate) rate: u8,
 }

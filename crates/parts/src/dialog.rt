@@ -22,7 +22,7 @@ pub enum Awaited {
 #[derive(Clone, Copy)]
 pub enum Command {
     ReadCommandByte,
-    // what it makes of the next data byte
+    // what it makes of the next data byte; no byte decodes to `None`, but a narrower type would ask more of a caller
     Await(Option<Awaited>),
     Disable(Gate),
     Enable(Gate),

@@ -25,7 +25,8 @@ impl Port {
         self as u8
     }
 
-    // The port of the two bits that number it: no `TryFrom`, since no two bits are refused.
+    // The port of the two bits that number it: no `From`, since a byte has more values, and no `TryFrom`, since none is
+    // refused.
     pub fn at(bits: u8) -> Port
         ensures { result ≡ port_at bits }
     {
@@ -39,6 +40,7 @@ impl Port {
 }
 
 impl Line {
+    // By cases, since the enum has a port inside it and so no numbers of its own.
     pub fn number(self) -> u8
         ensures value { result ≡ line_number self }
         ensures bound { result < 6 }

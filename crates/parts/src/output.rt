@@ -51,12 +51,10 @@ impl Shown {
         match (self.line, mode) {
             (Line::Aux(_), Mode::Legacy) => faults + 0x24,
             (Line::Aux(port), Mode::Multiplexed) => {
-                let error = if faults == 0 { 0 } else { 4 };
+                let error = 4 * u8::from(faults != 0);
                 port.number() * 64 + 0x20 + error
             }
-            (Line::Keyboard | Line::Controller, _) => {
-                if system_flag { faults + 4 } else { faults }
-            }
+            (Line::Keyboard | Line::Controller, _) => faults + 4 * u8::from(system_flag),
         }
     }
 }

@@ -24,7 +24,7 @@ pub enum Gate {
 pub struct Settings {
     pub mode: Mode,
     pub command: u8,
-    // by a port's number
+    // by a port's number: four, as there are ports, so an array and no vector
     pub disabled: [bool; 4],
 }
 

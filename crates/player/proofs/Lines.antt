@@ -1,5 +1,5 @@
 -- The lines of a file, record by record, and the calls that they made.
-use Rattle.std.proofs.Common.{◌≡◌, ℕ, ◌+◌, List, [], ◌∷◌, ◌++◌, Some, None, Ok, Err, Option, sym, refl, ap, ◌∙◌, append_assoc, append-nil, arith}
+use Rattle.std.proofs.Common.{◌≡◌, ℕ, ◌+◌, List, [], ◌∷◌, ◌++◌, Some, None, Ok, Err, Option, sym, refl, ap, ◌∙◌, append_assoc, append-nil}
 use Rattle.ps2.specs.declared.refusal.Refusal.{Refusal}
 use Rattle.session.specs.declared.reader.Reader.{Reader}
 use Rattle.session.specs.Records.{Item}

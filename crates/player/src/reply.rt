@@ -45,7 +45,7 @@ impl fmt::Display for Reply {
     }
 }
 
-// The line of a record, which is numbered from 1.
+// The line of a record, which is numbered from 1. (What it adds to the text is said as in `report`.)
 pub fn write_line(text: &mut String, number: usize, reply: Reply) -> Result<(), AllocError>
     ensures { OnOk result (string_bytes text.new ≡ string_bytes text.old ++ line_text number reply) }
 {

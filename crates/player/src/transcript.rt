@@ -30,7 +30,7 @@ fn write_refused(text: &mut String, before: usize, refusal: Refusal) -> Result<(
 }
 
 // The lines of a file from a reader at its start. They are numbered by hand, since a reader is no iterator: a refusal
-// leaves it where it was. Nothing is shared with `explain`: of a closure that writes, no proof learns what it wrote.
+// leaves it where it was. Nothing is shared with `explain`: three closures, for a record, the end and a refusal, would stand for eight lines.
 fn write_records<C: KeyboardController>(
     text: &mut String,
     controller: &mut C,

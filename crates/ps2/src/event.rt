@@ -36,6 +36,7 @@ impl Movement {
     pub fn is_in_range(self) -> bool
         ensures { result ≡ movement_in_range self.dx self.dy self.wheel self.buttons }
     {
+        // in two steps: the check loses its way in a chain of four tests
         if !is_wheel(self.wheel) || self.buttons > 31 {
             return false;
         }

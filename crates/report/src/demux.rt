@@ -8,6 +8,7 @@ use lanes::lane::{Untagged, count_untagged, fill_lane, lane_size};
 use std::alloc::{AllocError, Global};
 use text::HexBytes;
 
+// Ports are numbers, as they are printed and as lanes take them.
 const PORTS: u8 = 4;
 
 fn readings_of(heap: Global, pairs: &[[u8; 2]]) -> Result<Vec<u16>, AllocError>

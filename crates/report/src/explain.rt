@@ -104,7 +104,8 @@ fn write_record(
     write!(text, "{number} at {place}: {words}\n")
 }
 
-// The lines of a file from a reader at its start, numbered by hand, since a reader is no iterator.
+// The lines of a file from a reader at its start, numbered by hand, since a reader is no iterator: a refusal
+// leaves it where it was.
 fn write_records(text: &mut String, mut reader: Reader<'_>) -> Result<(), AllocError>
     requires { AtStart (file_of reader) reader }
     ensures { OnOk result (string_bytes text.new ≡ string_bytes text.old ++ lines_of 0 0 (session (left_of reader.entry))) }

@@ -1,6 +1,6 @@
 -- How far the arbiter is from a port, and that a move brings it nearer.
 use Rattle.std.proofs.Common.{◌≡◌, ℕ, zero, suc, ◌+◌, ◌-◌, ◌%◌, ◌<◌, ◌≤◌, Bool, true, false, eqb, ltb, Some, None, Option, sym, refl, ap, ◌∙◌, sub-one, arith}
-use Rattle.std.proofs.lemmas.Option.{none-some}
+use Rattle.std.proofs.lemmas.Option.{none-some, same_Some}
 use Rattle.std.proofs.lemmas.Bool.{true≢false}
 use Rattle.parts.specs.declared.lines.Line.{Line}
 use Rattle.parts.specs.declared.lines.Line.TheVariants.{Aux, Keyboard, Controller}
@@ -8,7 +8,7 @@ use Rattle.parts.specs.declared.lines.Port.{Port}
 use Rattle.parts.specs.declared.lines.Port.TheVariants.{P0, P1, P2, P3}
 use Rattle.parts.specs.Lines.{port_number, line_number, line_after, is_port}
 use Rattle.rules.specs.Arbiter.{first_of}
-use Rattle.rules.proofs.Basics.{by_test, port_line, line_few, port_few, some_is}
+use Rattle.rules.proofs.Basics.{by_test, port_line, line_few, port_few}
 
 -- The search, line by line
 -- ------------------------
@@ -33,7 +33,7 @@ module _ (has : Line → Bool) where
   unfolding first_of
   first_has zero l m e = absurd (none-some m e)
   first_has (suc n) l m e =
-      by_test (has l) (λ t. let same : l ≡ m = some_is l m (sym (rw t) ∙ e) in ap has (sym same) ∙ t) (λ t. first_has n (line_after l) m (sym (rw t) ∙ e))
+      by_test (has l) (λ t. let same : l ≡ m = same_Some l m (sym (rw t) ∙ e) in ap has (sym same) ∙ t) (λ t. first_has n (line_after l) m (sym (rw t) ∙ e))
 
 -- How far it goes
 -- ---------------

@@ -1,5 +1,5 @@
 -- Ports and lines by their numbers, and a port as a cable.
-use Rattle.std.proofs.Common.{◌≡◌, ℕ, ◌<◌, ◌≤◌, Bool, true, false, cond, T, eqb, leb, ◌⊎◌, List, [], ◌∷◌, ◌++◌, Some, None, Option, sym, refl, ap, ◌∙◌, subst, inl, inr, arith, eqb→eq}
+use Rattle.std.proofs.Common.{◌≡◌, ℕ, ◌<◌, ◌≤◌, Bool, true, false, cond, T, eqb, leb, ◌⊎◌, List, [], ◌∷◌, ◌++◌, Some, None, Option, sym, refl, ap, ◌∙◌, inl, inr, arith}
 use Rattle.std.proofs.lemmas.Bool.{true≢false, eqb-true}
 use Rattle.ps2.specs.declared.entry.Entry.{Entry}
 use Rattle.ps2.specs.Kinds.{Kind}
@@ -18,9 +18,6 @@ use Rattle.rules.specs.Law.{Among}
 
 pub modes_apart : Legacy ≡ Multiplexed → ⊥
 modes_apart e = let z : ◌≡◌ {A = ℕ} 0 1 = cc in omega arith
-
-pub some_is : {A : Type 0} (a b : A) → ◌≡◌ {A = Option A} (Some a) (Some b) → a ≡ b
-some_is a b e = cc
 
 pub not_present : {A : Type 0} (o : Option A) → present o ≡ false → o ≡ None
 not_present None e = refl

@@ -4,7 +4,7 @@ ghost use Rattle.session.specs.Records.{stroke_length, said, plain};
 ghost use Rattle.session.specs.Readers.{Split, Found};
 
 use crate::record_kinds::Record;
-use ps2::event::Movement;
+use ps2::event::{Event, Movement};
 use ps2::refusal::Refusal;
 
 // A record's kind, its payload, which is there whole, and the bytes behind the record.
@@ -48,7 +48,8 @@ pub(crate) fn first(left: &[u8]) -> Result<(Record<'_>, &[u8]), Refusal>
 fn is_stroke(bytes: &[u8]) -> bool
     ensures { result ≡ stroke_length (length bytes.now) }
 {
-    (1..=16).contains(&bytes.len())
+    let stroke = Event::Stroke(bytes);
+    stroke.is_in_range()
 }
 
 // What a payload of a kind says. The kind stays the format's number: an unknown one and a wrong length are refused alike.

@@ -9,6 +9,9 @@ use ps2::refusal::Refusal;
 
 pub const LONGEST_FILE: usize = 65_536;
 
+// What a program reads: one byte more, so that too long a file is seen to be too long.
+pub const MOST_READ: u64 = LONGEST_FILE as u64 + 1;
+
 // The bytes left are a slice beside the file, and no place in it: nothing then needs a bound.
 #[derive(Clone, Copy)]
 pub struct Reader<'a> {

@@ -2,18 +2,15 @@
 #![tactic(auto)]
 
 use player::transcript::transcript;
+use session::reader::MOST_READ;
 use std::env;
 use std::fs::File;
-use session::reader::LONGEST_FILE;
 use std::io::Read;
-
-// One byte more than is accepted, so that too long a file is seen to be too long.
-const MOST_BYTES: u64 = LONGEST_FILE as u64 + 1;
 
 fn play(rt: &HostRuntime, name: &str) -> anyhow::Result<()> {
     let mut file = Vec::new(rt.alloc());
     File::open(rt, name)?
-        .take(MOST_BYTES)
+        .take(MOST_READ)
         .read_to_end(&mut file)?;
     println!(rt; "{name}")?;
     rt.print(transcript(rt.alloc(), file.as_slice())?)?;

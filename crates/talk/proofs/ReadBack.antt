@@ -13,10 +13,11 @@ use Rattle.talk.specs.declared.step.Step.TheVariants.{Note, Power, Host, Move}
 use Rattle.talk.specs.Texts.{before, behind}
 use Rattle.talk.specs.Steps.{move_of, host_of, step_of}
 use Rattle.talk.specs.StepWords.{step_words}
-use Rattle.talk.specs.TalkLaws.{Shown}
+use Rattle.talk.specs.TalkLaws.{Shown, Laws}
 use Rattle.talk.specs.Numbers.{nibble_of, paired, byte_of, one_more, digits_of, count_of, signed_of, number_of}
 use Rattle.text.specs.Hex.{hex_digit, hex}
 use Rattle.talk.proofs.Cuts.{Lacks, before_at, behind_at}
+use Rattle.talk.proofs.Laws.{settled, kept}
 
 one_digit : (n d : ℕ) → n < 100 → d < 10 → one_more (Some n) (48 + d) ≡ Some (10 * n + d)
 one_digit n d h k = grind (arith, nat_tests)
@@ -87,3 +88,6 @@ read_back (Power Plain) h = refl
 read_back (Power Wheel) h = refl
 read_back (Host b) h = host_word (hex b) ∙ ap host_of (byte_back b h)
 read_back (Move d) h = move_word _ ∙ move_back d h
+
+pub laws : Laws
+laws = record { settled = settled; kept = kept; read_back = read_back }

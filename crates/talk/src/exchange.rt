@@ -16,6 +16,9 @@ use ps2::event::Event;
 use std::alloc::{AllocError, Global};
 use text::Hex;
 
+// Text and mouse stay two parameters: a struct of both would be lent in halves, the text for a line and the mouse for a
+// step. What is added to a text is said as in `report`.
+
 // What a step does to a mouse that is there.
 fn act(mouse: &mut Mouse, step: Step)
     ensures { mouse.new ≡ acted step mouse.old }
@@ -136,6 +139,7 @@ fn text_of(heap: Global, input: &str) -> Result<String, AllocError>
 }
 
 // A talk with a mouse: each line of the input with what the mouse gives then.
+#[tactic(auto, using(crate::proofs::ReadBack::laws))]
 pub fn exchange(heap: Global, input: &str) -> Result<String, AllocError>
     ensures text { IfOk result (λ t. string_bytes t ≡ exchanged input.now) }
     ensures laws { Laws }

@@ -70,10 +70,8 @@ pub(crate) fn count(digits: &[u8]) -> Option<Capped>
 pub(crate) fn number(text: &[u8]) -> Option<i16>
     ensures { result ≡ number_of text.now }
 {
-    let (minus, digits) = match text {
-        [b'-', digits @ ..] => (true, digits),
-        digits => (false, digits),
-    };
-    let n = count(digits)?.n as i16;
-    Some(if minus { -n } else { n })
+    match text {
+        [b'-', digits @ ..] => Some(-(count(digits)?.n as i16)),
+        digits => Some(count(digits)?.n as i16),
+    }
 }

@@ -60,7 +60,7 @@ fn host_step(text: &str) -> Result<Step, Fault>
     byte(text.as_bytes()).map(Step::Host).ok_or(Fault::BadByte)
 }
 
-// An action that has something behind it.
+// An action: its word, and what is behind it.
 fn action(line: &str) -> Result<Step, Fault>
     ensures { result ≡ action_of (before 32 line.now) (behind 32 line.now) }
 {

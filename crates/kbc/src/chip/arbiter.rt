@@ -45,10 +45,9 @@ impl<B: Bank> Chip<B> {
         ensures value { result ≡ taken_from (held_at (state_of B.Bank.values self.old).held line) (state_of B.Bank.values self.old) line }
         ensures after { state_of B.Bank.values self.new ≡ taken_to (held_at (state_of B.Bank.values self.old).held line) (state_of B.Bank.values self.old) line }
     {
-        let held = self.lines.held(line);
-        if held.is_some() {
+        if let Some(entry) = self.lines.held(line) {
             self.lines.put(line, None);
-            return held;
+            return Some(entry);
         }
         self.devices.give(line)
     }

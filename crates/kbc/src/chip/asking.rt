@@ -27,11 +27,9 @@ impl<B: Bank> Chip<B> {
         let flag = self.settings.command & SYSTEM_FLAG != 0;
         let output = match self.output {
             Some(shown) => shown.bits(self.settings.mode, flag) + 1,
-            None if flag => 4,
-            None => 0,
+            None => 4 * u8::from(flag),
         };
-        let input = if self.dialog.input.is_some() { 2 } else { 0 };
-        output + input
+        output + 2 * u8::from(self.dialog.input.is_some())
     }
 
     pub(super) fn irqs(&self) -> (bool, bool)
