@@ -165,7 +165,11 @@ fn axes(rt: HostRuntime) -> Result<(), Fail> {
     )?;
     moves(&mut mouse, 9, 9, 0, 0);
     // an unlisted command resets the counters
-    hears(&rt, &mut mouse, &[(0x12, b"\xfa"), (0xEB, b"\xfa\x08\0\0")])
+    hears(&rt, &mut mouse, &[(0x12, b"\xfa"), (0xEB, b"\xfa\x08\0\0")])?;
+    // past the other ends
+    moves(&mut mouse, -255, 255, 0, 0);
+    moves(&mut mouse, -1, 1, 0, 0);
+    hears(&rt, &mut mouse, &[(0xEB, b"\xfa\xd8\x01\xff")])
 }
 
 #[test]
@@ -220,7 +224,21 @@ fn broken_knocks(rt: HostRuntime) -> Result<(), Fail> {
     ];
     hears(&rt, &mut mouse, &again)?;
     hears(&rt, &mut mouse, &rest)?;
-    hears(&rt, &mut mouse, &[(0xF2, b"\xfa\x03")])
+    hears(&rt, &mut mouse, &[(0xF2, b"\xfa\x03")])?;
+    // the second knock, broken in the middle
+    let broken: [Exchange; 8] = [
+        (0xF3, b"\xfa"),
+        (200, b"\xfa"),
+        (0xF3, b"\xfa"),
+        (60, b"\xfa"),
+        (0xF3, b"\xfa"),
+        (200, b"\xfa"),
+        (0xF3, b"\xfa"),
+        (80, b"\xfa"),
+    ];
+    let mut other = Mouse::new(Variant::Wheel);
+    hears(&rt, &mut other, &broken)?;
+    hears(&rt, &mut other, &[(0xF2, b"\xfa\0")])
 }
 
 #[test]
