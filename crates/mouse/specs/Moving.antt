@@ -49,6 +49,7 @@ abbrev pub streams : Mode → Bool
 streams Stream = true
 streams Remote = false
 
+-- Wrap mode: the next byte is echoed
 abbrev pub wraps : Awaited → Bool
 wraps next.Command = false
 wraps next.Rate = false
