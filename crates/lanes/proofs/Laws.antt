@@ -26,6 +26,11 @@ size_cons p r rs = grind (arith, length-map)
 pub size_first : (p : ℕ) (rs : List ℕ) → 0 < length rs → length (lane p (between 1 (length rs) rs)) + bool_byte (is_of p (get_or rs 0 0)) ≡ length (lane p rs)
 size_first p rs some = rw (size_cons p (get_or rs 0 0), ← first_rest rs 0 some)
 
+-- a test as a number
+pub one_or_none : (t : Bool) → bool_byte t ≡ cond t 1 0
+one_or_none true = refl
+one_or_none false = refl
+
 -- a reading counts once: in one of the four lanes, or as untagged
 one_place : (g : Bool) (t : ℕ) → t < 4 → bool_byte (names 0 (cond g (Some t) None)) + bool_byte (names 1 (cond g (Some t) None)) + bool_byte (names 2 (cond g (Some t) None)) + bool_byte (names 3 (cond g (Some t) None)) + cond (not g) 1 0 ≡ 1
 one_place true t h = grind (arith, nat_tests)
