@@ -76,7 +76,7 @@ fn is_untagged(reading: u16) -> bool
     port_of(reading).is_none()
 }
 
-// Sums of ones, without a branch: `filter` and `count` took up to 2.4 times as long.
+// Sums of ones, without a branch: `filter` and `count` took up to 3.4 times as long.
 #[tactic(auto, using(crate::proofs::Laws::one_or_none), unfolding(crate::specs::Lanes::untagged, crate::specs::Lanes::errors))]
 fn tally(readings: &[u16]) -> Untagged
     ensures total { result.total ≡ untagged readings.now }
